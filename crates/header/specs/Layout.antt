@@ -1,0 +1,66 @@
+-- Extended link headers (EN 13757-4:2019, 13.2.1 to 13.2.5, Tables 43 to 47; byte order 12.2): CI CC ACC, then M2 A2
+-- where the kind is addressed, then SN PayloadCRC where it is secured. That order is said here and nowhere by kind.
+--     ciOf k             the CI byte of the kind k
+--     addressed k        whether M2 and A2 are in it
+--     secured k          whether SN and PayloadCRC are in it
+--     receiverPlace      where M2 starts
+--     sessionPlace k     where SN starts
+--     lengthOf k         bytes of the whole header, CI among them
+--     twoBytes x         x as two bytes, fourBytes x as four: least significant first
+--     receiverBytes r    M2, then A2 as it stands
+--     sessionBytes s     SN, then PayloadCRC as it stands
+--     headerBytes h      the whole header as it is sent; what its kind lacks is left out
+-- Not here: CI 86h, which is not built; what the fields mean.
+use mathlib.Core.List.{List, [], _∷_, _++_}
+use mathlib.Core.Bool.{Bool, true, false, cond}
+use Prim.Native.Nat.{ℕ, _+_, _/_, _%_}
+use Rattle.header.specs.declared.Kind.{Kind}
+use Rattle.header.specs.declared.Kind.the-variants.{Plain, Secured, Addressed, AddressedSecured}
+use Rattle.header.specs.declared.Receiver.{Receiver}
+use Rattle.header.specs.declared.Session.{Session}
+use Rattle.header.specs.declared.Header.{Header}
+
+abbrev pub ciOf : Kind → ℕ
+ciOf Plain = 0x8C
+ciOf Secured = 0x8D
+ciOf Addressed = 0x8E
+ciOf AddressedSecured = 0x8F
+
+abbrev pub addressed : Kind → Bool
+addressed Plain = false
+addressed Secured = false
+addressed Addressed = true
+addressed AddressedSecured = true
+
+abbrev pub secured : Kind → Bool
+secured Plain = false
+secured Secured = true
+secured Addressed = false
+secured AddressedSecured = true
+
+abbrev pub receiverPlace : ℕ
+receiverPlace = 3
+
+abbrev pub sessionPlace : Kind → ℕ
+sessionPlace k = receiverPlace + cond (addressed k) 8 0
+
+abbrev pub lengthOf : Kind → ℕ
+lengthOf k = sessionPlace k + cond (secured k) 6 0
+
+abbrev pub twoBytes : ℕ → List ℕ
+twoBytes x = x % 256 ∷ x / 256 ∷ []
+
+abbrev pub fourBytes : ℕ → List ℕ
+fourBytes x = twoBytes (x % 65536) ++ twoBytes (x / 65536)
+
+abbrev pub receiverBytes : Receiver → List ℕ
+receiverBytes r = twoBytes (r .m2) ++ (r .a2 .0 ∷ r .a2 .1 ∷ r .a2 .2 ∷ r .a2 .3 ∷ r .a2 .4 ∷ r .a2 .5 ∷ [])
+
+abbrev pub sessionBytes : Session → List ℕ
+sessionBytes s = fourBytes (s .sn) ++ (s .check .0 ∷ s .check .1 ∷ [])
+
+abbrev pub headerBytes : Header → List ℕ
+headerBytes h =
+    (ciOf (h .kind) ∷ h .cc ∷ h .acc ∷ [])
+    ++ (cond (addressed (h .kind)) (receiverBytes (h .receiver)) []
+    ++ cond (secured (h .kind)) (sessionBytes (h .session)) [])
