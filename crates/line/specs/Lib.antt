@@ -1,0 +1,4 @@
+pub mod Codes
+pub mod Decoding
+pub mod Encoding
+pub mod OneWord
