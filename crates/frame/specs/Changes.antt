@@ -1,0 +1,42 @@
+-- Changing bytes of a finished frame (document 01, "Changing a byte", "Answer numbers": the frame's 1, 2, 3, then 9).
+--     changingOf f s k b    the frame's own refusal; BadPlace if it has no content byte k; else s with the frame of the
+--                           content whose byte k is now b, the bytes behind the frame as they were
+--     changing f es s       what s holds after the changes es, one after the other, the refused ones among them
+--     edited es c           the content c with the changes es made in that order; one past the end does nothing
+-- A change is measured by writing: that only three bytes of s differ, and how the new check follows from the old one,
+-- are theorems (proofs/ChangeLaws).
+use mathlib.Core.Bool.{cond}
+use mathlib.Core.List.{List, [], _∷_, _++_}
+use Prim.Native.Nat.{ℕ}
+use lib.Dec.{ltb}
+use lib.ListN.{drop, set}
+use Rattle.ground.specs.Outcome.{Outcome}
+use Rattle.frame.specs.declared.Format.{Format}
+use Rattle.frame.specs.declared.Judged.{Judged}
+use Rattle.frame.specs.declared.Changed.{Changed}
+use Rattle.frame.specs.Frames.{frameOf, contentIn}
+use Rattle.frame.specs.Judging.{judgeOf}
+
+unfoldable pub setIn : Format → List ℕ → ℕ → ℕ → Judged → Outcome Changed
+setIn f s k b (Judged.Accepted z n) =
+    cond (ltb k n)
+    (record { answer = Changed.Accepted z n; memory = frameOf f (set (contentIn f n s) k b) ++ drop z s })
+    (record { answer = Changed.BadPlace; memory = s })
+setIn f s k b Judged.Short = record { answer = Changed.Short; memory = s }
+setIn f s k b Judged.BadLength = record { answer = Changed.BadLength; memory = s }
+setIn f s k b (Judged.WrongCheck w) = record { answer = Changed.WrongCheck w; memory = s }
+
+unfoldable pub changingOf : Format → List ℕ → ℕ → ℕ → Outcome Changed
+changingOf f s k b = setIn f s k b (judgeOf f s)
+
+pub record Edit : Type 0 where
+  pub place : ℕ
+  pub byte : ℕ
+
+unfoldable pub changing : Format → List Edit → List ℕ → List ℕ
+changing f [] s = s
+changing f (e ∷ es) s = changing f es (changingOf f s (e .place) (e .byte) .memory)
+
+unfoldable pub edited : List Edit → List ℕ → List ℕ
+edited [] c = c
+edited (e ∷ es) c = edited es (set c (e .place) (e .byte))

@@ -1,0 +1,7 @@
+pub mod Formats
+pub mod Frames
+pub mod Judging
+pub mod Reads
+pub mod Writes
+pub mod Changes
+pub mod Numbers
