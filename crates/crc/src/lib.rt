@@ -1,1 +1,79 @@
 // The block check and its update (EN 13757-4:2019, 12.5.7; document 01, "Frames", "Changing a byte").
+ghost use mathlib.Core.Path.{_≡_};
+ghost use Prim.Native.Nat.{_≤_};
+ghost use Rattle.crc.specs.Check.{bitIn, byteIn, checkOf};
+ghost use Rattle.crc.specs.CheckUpdate.{updating, shareOf, farthest, Mends};
+
+// x^13+x^12+x^11+x^10+x^8+x^6+x^5+x^2+1: the polynomial of 12.5.7 without its highest term.
+const POLYNOMIAL: u16 = 0x3D65;
+
+// At most so many bytes stand between a changed byte and the end of its span.
+const FARTHEST: usize = 125;
+
+// What the update of a check answers: the new check, or that the distance is too large.
+pub enum Updated {
+    Accepted(u16),
+    OutOfRange,
+}
+
+// The register after one bit.
+fn bit_in(reg: u16) -> u16
+    ensures { λ r. ⌜ r ≡ bitIn reg ⌝ }
+{
+    if reg >= 0x8000 {
+        (reg << 1) ^ POLYNOMIAL
+    } else {
+        reg << 1
+    }
+}
+
+// The register after a byte, highest bit first. The compiler makes a table of this loop.
+fn byte_in(reg: u16, b: u8) -> u16
+    ensures { λ r. ⌜ r ≡ byteIn reg b ⌝ }
+{
+    let mut v = reg ^ ((b as u16) * 256);
+    let mut k: usize = 0;
+    while k < 8 {
+        v = bit_in(v);
+        k += 1;
+    }
+    v
+}
+
+// The check of the bytes of `s`: of a block, a slice from its first byte to its last.
+pub fn check(s: &[u8]) -> u16
+    ensures { λ r. ⌜ r ≡ checkOf (now (s .entry)) ⌝ }
+{
+    let mut reg: u16 = 0;
+    let mut i: usize = 0;
+    while i < s.len() {
+        reg = byte_in(reg, s[i]);
+        i += 1;
+    }
+    reg ^ 0xFFFF
+}
+
+// What a byte `x` with `distance` bytes behind it adds to the register.
+fn share(x: u8, distance: usize) -> u16
+    ensures { λ r. ⌜ r ≡ shareOf x distance ⌝ }
+{
+    let mut reg = byte_in(0, x);
+    let mut n = distance;
+    while 0 < n {
+        reg = byte_in(reg, 0);
+        n -= 1;
+    }
+    reg
+}
+
+// The check of a span after one of its bytes was changed from `old` to `new`. `distance` counts the bytes between it
+// and the end of the span; no other byte of the span is looked at.
+pub fn update(old_check: u16, old: u8, new: u8, distance: usize) -> Updated
+    ensures settles { λ r. ⌜ r ≡ updating «old_check» old new distance ⌝ }
+    ensures mends { λ r. ⌜ (distance ≤ farthest → Mends «old_check» old new distance r) ⌝ }
+{
+    if FARTHEST < distance {
+        return Updated::OutOfRange;
+    }
+    Updated::Accepted(old_check ^ share(old ^ new, distance))
+}
