@@ -1,2 +1,3 @@
 pub mod Settled
 pub mod XorLaws
+pub mod TableLaws
