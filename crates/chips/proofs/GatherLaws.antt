@@ -64,3 +64,10 @@ unfolding gather
 wordAt-byte s q h =
     rw (inByte s q 0 (omega arith), inByte s q 1 (omega arith), inByte s q 2 (omega arith), inByte s q 3 (omega arith), inByte s q 4 (omega arith), inByte s q 5 (omega arith), inByte s q 6 (omega arith), inByte s q 7 (omega arith))
     (digits (getD s q 0) h)
+
+-- a window of w chips grows by the byte behind it
+pub wordAt-grow : (s : List ℕ) (q n : ℕ) → getD s (q + n) 0 < 256
+    → wordAt s (8 * q) (8 * n + 8) ≡ wordAt s (8 * q) (8 * n) * 256 + getD s (q + n) 0
+wordAt-grow s q n h =
+    let place : 8 * q + 8 * n ≡ 8 * (q + n) = omega arith in
+    rw (gather-add (chipAt s) (8 * q) (8 * n) 8, place, wordAt-byte s (q + n) h)

@@ -1,0 +1,2 @@
+pub mod SyncSearch
+pub mod FirstMatch
