@@ -1,4 +1,13 @@
 -- Laws of the check. All of it is linear: what two patterns do together is the sum of what each does alone.
+--     bitIn-high, bitIn-low      the definition of one bit's step, by cases of the highest bit
+--     bitsIn-left, regOf-drop    one turn of a loop over bits, over the bytes of a slice
+--     regOf-append               bytes after bytes
+--     bitIn-xor .. regOf-xor     linearity, from one bit to a list of bytes
+--     checkOf-xor                the sum of two checks has no complement in it
+--     regOf-added                a sum in the register goes through later bytes as through zeros
+--     checkOf-changed            a check after one byte was changed: the old check and the share of the difference
+--     regOf-lt, checkOf-lt       sixteen bits, whatever the numbers that stand for bytes
+-- Assumes nothing.
 use mathlib.Core.Path.{_≡_, refl, sym, ap, ap₂, _∙_}
 use mathlib.Core.List.{List, [], _∷_, _++_}
 use Prim.Native.Nat.{ℕ, zero, suc, _+_, _*_, _-_, _/_, _%_, _<_, _≤_}
@@ -34,6 +43,11 @@ bitsIn-left n k r h = let e : n - k ≡ suc (n - (k + 1)) = omega arith in rw e
 pub regOf-drop : (s : List ℕ) (i r : ℕ) → i < length s → regOf (byteIn r (getD s i 0)) (drop (i + 1) s) ≡ regOf r (drop i s)
 unfolding regOf
 regOf-drop s i r h = rw (add-one i, drop-cons s i 0 h)
+
+pub regOf-append : (r : ℕ) (xs bs : List ℕ) → regOf r (xs ++ bs) ≡ regOf (regOf r xs) bs
+unfolding regOf
+regOf-append r [] bs = refl
+regOf-append r (x ∷ xs) bs = regOf-append (byteIn r x) xs bs
 
 -- ---- linearity
 
@@ -125,11 +139,6 @@ checkOf-changed old new pre post =
 pub bitIn-lt : (r : ℕ) → bitIn r < 65536
 unfolding bitIn
 bitIn-lt r = xor-lt 16 (r * 2 % 65536) (r / 32768 % 2 * 0x3D65) (omega arith) (omega arith)
-
-bitsIn-lt : (n r : ℕ) → r < 65536 → bitsIn n r < 65536
-unfolding bitsIn
-bitsIn-lt zero r h = h
-bitsIn-lt (suc n) r h = bitsIn-lt n (bitIn r) (bitIn-lt r)
 
 pub byteIn-lt : (r b : ℕ) → byteIn r b < 65536
 unfolding byteIn bitsIn

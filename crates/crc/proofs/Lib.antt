@@ -1,2 +1,4 @@
 pub mod CheckLaws
+pub mod ShareLaws
 pub mod UpdateLaws
+pub mod WorkedExamples

@@ -1,12 +1,11 @@
 -- Laws of the check update: the definition does what 01 asks, for every span.
---     updating-mends   the answer is the check of any span that fits, with the new byte in it
+--     updating-mends      the answer is the check of any span that fits, with the new byte in it
+--     updating-promised   both promises of `crc::update` from the first
+-- Assumes nothing.
 use mathlib.Core.Path.{_≡_, sym, ap, ap₂, _∙_}
-use Prim.Native.Nat.{ℕ, zero, suc, _-_, _<_, _≤_}
-use native.Mathlib.Omega.{arith}
+use Prim.Native.Nat.{ℕ, _≤_}
 use borrow.Author.Tests.{le-leb}
 use lib.Bits.{bitXor}
-use lib.ListN.{replicate}
-use Rattle.crc.specs.Check.{byteIn, regOf}
 use Rattle.crc.specs.CheckUpdate.{shareOf, farthest, updating, Mends}
 use Rattle.crc.specs.declared.Updated.{Updated}
 use Rattle.crc.specs.declared.Updated.the-variants.{Accepted}
@@ -22,9 +21,3 @@ updating-mends c old new k near pre post size is =
 pub updating-promised : (c old new k : ℕ) (r : Updated) → r ≡ updating c old new k
     → (r ≡ updating c old new k) × (k ≤ farthest → Mends c old new k r)
 updating-promised c old new k r e = (e, λ near pre post size is. e ∙ updating-mends c old new k near pre post size is)
-
--- one zero byte of those that are left
-pub regOf-zeros-pred : (n r : ℕ) → 0 < n → regOf (byteIn r 0) (replicate (n - 1) 0) ≡ regOf r (replicate n 0)
-unfolding regOf
-regOf-zeros-pred zero r h = absurd (omega arith)
-regOf-zeros-pred (suc n) r h = let e : suc n - 1 ≡ n = omega arith in rw e

@@ -10,6 +10,19 @@ const POLYNOMIAL: u16 = 0x3D65;
 // At most so many bytes stand between a changed byte and the end of its span.
 const FARTHEST: usize = 125;
 
+// What the byte 01 with 0, 16 .. 112 bytes behind it adds to the register: from one of these an update goes through at
+// most fifteen zero bytes, however far the change is from the end.
+const SIXTEENS: [u16; 8] = [
+    0x3D65,
+    0x6364,
+    0x3447,
+    0x4CD2,
+    0x9A34,
+    0x92AA,
+    0x53EC,
+    0x0040,
+];
+
 // What the update of a check answers: the new check, or that the distance is too large.
 pub enum Updated {
     Accepted(u16),
@@ -53,17 +66,33 @@ pub fn check(s: &[u8]) -> u16
     reg ^ 0xFFFF
 }
 
-// What a byte `x` with `distance` bytes behind it adds to the register.
-fn share(x: u8, distance: usize) -> u16
-    ensures { λ r. ⌜ r ≡ shareOf x distance ⌝ }
+// What the byte 01 with `distance` bytes behind it adds to the register: from the last multiple of sixteen on.
+fn share_of_one(distance: usize) -> u16
+    requires { ⌜ distance ≤ farthest ⌝ }
+    ensures { λ r. ⌜ r ≡ shareOf 1 distance ⌝ }
 {
-    let mut reg = byte_in(0, x);
-    let mut n = distance;
+    let mut reg = SIXTEENS[distance / 16];
+    let mut n = distance % 16;
     while 0 < n {
         reg = byte_in(reg, 0);
         n -= 1;
     }
     reg
+}
+
+// What any byte `x` there adds: bit by bit from the highest, one step for the place of a bit, the share of 01 for a one.
+fn share(x: u8, distance: usize) -> u16
+    requires { ⌜ distance ≤ farthest ⌝ }
+    ensures { λ r. ⌜ r ≡ shareOf x distance ⌝ }
+{
+    let one = share_of_one(distance);
+    let mut sum: u16 = 0;
+    let mut k: u32 = 8;
+    while 0 < k {
+        k -= 1;
+        sum = bit_in(sum) ^ ((x >> k) % 2) as u16 * one;
+    }
+    sum
 }
 
 // The check of a span after one of its bytes was changed from `old` to `new`. `distance` counts the bytes between it
