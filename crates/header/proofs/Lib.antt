@@ -1,0 +1,2 @@
+pub mod LayoutLaws
+pub mod ReadingLaws
