@@ -1,3 +1,4 @@
 pub mod Settled
 pub mod XorLaws
 pub mod TableLaws
+pub mod StoresLaws

@@ -1,6 +1,6 @@
 -- Which answer a body gets, by the tests that decide it.
 use mathlib.Core.List.{List}
-use mathlib.Core.Path.{_≡_, _∙_, sym, ap}
+use mathlib.Core.Path.{_≡_, _∙_, ap}
 use Prim.Native.Nat.{ℕ, _≤_, _<_}
 use lib.ListN.{length, getD}
 use borrow.Author.Tests.{ne-eqb, lt-ltb, le-ltb}
@@ -8,8 +8,8 @@ use Rattle.header.specs.Layout.{lengthOf}
 use Rattle.header.specs.Reading.{kindOf, headerIn, readingAs, readingOf}
 use Rattle.header.specs.declared.Kind.{Kind}
 use Rattle.header.specs.declared.Named.{Named}
-use Rattle.header.specs.declared.Named.the-variants.{Is, NoKind}
-use Rattle.header.specs.declared.HeaderReading.the-variants.{Accepted, UnknownCi, ShortBody}
+use Rattle.header.specs.declared.Named.the-variants.{Is}
+use Rattle.header.specs.declared.HeaderReading.the-variants.{Accepted, ShortBody}
 
 module _ (s : List ℕ) (there : length s ≡ 0 → ⊥) where
   pub readingOf-named : (n : Named) → kindOf (getD s 0 0) ≡ n → readingOf s ≡ readingAs n s

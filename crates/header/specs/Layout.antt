@@ -9,7 +9,8 @@
 --     twoBytes x         x as two bytes, fourBytes x as four: least significant first
 --     receiverBytes r    M2, then A2 as it stands
 --     sessionBytes s     SN, then PayloadCRC as it stands
---     headerBytes h      the whole header as it is sent; what its kind lacks is left out
+--     receiverPart k r, sessionPart k s    the same where the kind k has them, else no bytes
+--     headerBytes h      the whole header as it is sent
 -- Not here: CI 86h, which is not built; what the fields mean.
 use mathlib.Core.List.{List, [], _∷_, _++_}
 use mathlib.Core.Bool.{Bool, true, false, cond}
@@ -59,8 +60,12 @@ receiverBytes r = twoBytes (r .m2) ++ (r .a2 .0 ∷ r .a2 .1 ∷ r .a2 .2 ∷ r 
 abbrev pub sessionBytes : Session → List ℕ
 sessionBytes s = fourBytes (s .sn) ++ (s .check .0 ∷ s .check .1 ∷ [])
 
+abbrev pub receiverPart : Kind → Receiver → List ℕ
+receiverPart k r = cond (addressed k) (receiverBytes r) []
+
+abbrev pub sessionPart : Kind → Session → List ℕ
+sessionPart k s = cond (secured k) (sessionBytes s) []
+
 abbrev pub headerBytes : Header → List ℕ
 headerBytes h =
-    (ciOf (h .kind) ∷ h .cc ∷ h .acc ∷ [])
-    ++ (cond (addressed (h .kind)) (receiverBytes (h .receiver)) []
-    ++ cond (secured (h .kind)) (sessionBytes (h .session)) [])
+    (ciOf (h .kind) ∷ h .cc ∷ h .acc ∷ []) ++ receiverPart (h .kind) (h .receiver) ++ sessionPart (h .kind) (h .session)

@@ -8,7 +8,7 @@
 --     readingAs n s             the answer for a body whose CI names n
 --     readingOf s               the answer: 12 for an empty body, 11, 12, else the header and its length
 -- Bytes behind the header are not looked at.
-use mathlib.Core.List.{List, [], _∷_, _++_}
+use mathlib.Core.List.{List, [], _∷_}
 use mathlib.Core.Bool.{cond}
 use Prim.Native.Nat.{ℕ, _+_, _*_}
 use lib.Dec.{eqb, ltb}

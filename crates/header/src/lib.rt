@@ -2,12 +2,14 @@
 // 12.6.3, 13.2; document 01, "Extended headers and names").
 
 ghost use mathlib.Core.Path.{_≡_};
-ghost use mathlib.Core.Bool.{cond};
+ghost use mathlib.Core.List.{[], _∷_};
 ghost use Prim.Native.Nat.{_+_, _≤_, _<_};
 ghost use lib.ListN.{length};
+ghost use lib.Seq.{sets};
 ghost use Rattle.ground.specs.Outcome.{Outcome};
-ghost use Rattle.header.specs.Layout.{ciOf, addressed, secured, sessionPlace, lengthOf};
+ghost use Rattle.header.specs.Layout.{ciOf, addressed, secured, receiverPlace, sessionPlace, lengthOf, receiverBytes, sessionBytes, receiverPart, sessionPart};
 ghost use Rattle.header.specs.Reading.{kindOf, twoAt, fourAt, receiverAt, sessionAt, headerIn, readingOf};
+ghost use Rattle.header.specs.Writing.{writingOf};
 ghost use Rattle.header.specs.AccessBits.{accessOf};
 ghost use Rattle.header.specs.Letters.{isLetter, lettersOf};
 
@@ -287,4 +289,79 @@ pub fn read(body: &[u8]) -> HeaderReading
         return HeaderReading::ShortBody;
     }
     HeaderReading::Accepted(header_in(kind, body), n)
+}
+
+// Stores two bytes at place k.
+fn put_pair(out: &mut [u8], k: usize, a: u8, b: u8)
+    requires { ⌜ k + 1 < length (now out) ⌝ }
+    ensures { λ r. ⌜ now (out .exit) ≡ sets (now (out .entry)) k (a ∷ b ∷ []) ⌝ }
+{
+    out[k] = a;
+    out[k + 1] = b;
+}
+
+fn put_receiver_at(out: &mut [u8], k: usize, receiver: Receiver)
+    requires { ⌜ k + 7 < length (now out) ⌝ }
+    ensures { λ r. ⌜ now (out .exit) ≡ sets (now (out .entry)) k (receiverBytes receiver) ⌝ }
+{
+    let m = receiver.m2;
+    let a = receiver.a2;
+    put_pair(out, k, (m % 256) as u8, (m / 256) as u8);
+    put_pair(out, k + 2, a.0, a.1);
+    put_pair(out, k + 4, a.2, a.3);
+    put_pair(out, k + 6, a.4, a.5);
+}
+
+fn put_session_at(out: &mut [u8], k: usize, session: Session)
+    requires { ⌜ k + 5 < length (now out) ⌝ }
+    ensures { λ r. ⌜ now (out .exit) ≡ sets (now (out .entry)) k (sessionBytes session) ⌝ }
+{
+    let low = session.sn % 65536;
+    let high = session.sn / 65536;
+    let check = session.check;
+    put_pair(out, k, (low % 256) as u8, (low / 256) as u8);
+    put_pair(out, k + 2, (high % 256) as u8, (high / 256) as u8);
+    put_pair(out, k + 4, check.0, check.1);
+}
+
+// M2 and A2, where the kind has them.
+fn put_receiver(out: &mut [u8], kind: Kind, receiver: Receiver)
+    requires { ⌜ lengthOf kind ≤ length (now out) ⌝ }
+    ensures { λ r. ⌜ now (out .exit) ≡ sets (now (out .entry)) receiverPlace (receiverPart kind receiver) ⌝ }
+{
+    if !has_receiver(kind) {
+        return;
+    }
+    put_receiver_at(out, 3, receiver);
+}
+
+// SN and PayloadCRC, where the kind has them.
+fn put_session(out: &mut [u8], kind: Kind, session: Session)
+    requires { ⌜ lengthOf kind ≤ length (now out) ⌝ }
+    ensures { λ r. ⌜ now (out .exit) ≡ sets (now (out .entry)) (sessionPlace kind) (sessionPart kind session) ⌝ }
+{
+    if !has_session(kind) {
+        return;
+    }
+    put_session_at(out, session_place(kind), session);
+}
+
+// Writes the header at the start of the lent bytes (13.2). Those behind it stay.
+pub fn write(h: Header, out: &mut [u8]) -> HeaderWritten
+    ensures { λ r.
+        ⌜ _≡_ {A = Outcome HeaderWritten} (record { answer = r; memory = now (out .exit) }) (writingOf h (now (out .entry))) ⌝ }
+{
+    let kind = h.kind;
+    let n = length_of(kind);
+    if out.len() < n {
+        return HeaderWritten::NoRoom;
+    }
+    let receiver = h.receiver;
+    let session = h.session;
+    out[0] = ci_of(kind);
+    out[1] = h.cc;
+    out[2] = h.acc;
+    put_receiver(out, kind, receiver);
+    put_session(out, kind, session);
+    HeaderWritten::Accepted(n)
 }

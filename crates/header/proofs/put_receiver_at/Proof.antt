@@ -1,0 +1,70 @@
+-- `header::put_receiver_at` meets its contract: four runs of two bytes, each behind the one before it. Assumes nothing.
+use mathlib.Core.List.{[], _∷_, _++_}
+use denote.Ref.{now}
+use Rattle.ground.proofs.StoresLaws.{sets-then}
+use Rattle.header.specs.Layout.{twoBytes}
+use borrow.Author.Needs.{needs}
+use Rattle.header.proofs.put_receiver_at.Statement.{statement}
+use Rattle.header.proofs.put_receiver_at.Tie as tie
+
+cast-put-pair : tie.Need-cast-put-pair
+cast-put-pair c = search needs
+
+cast-put-pair-2 : tie.Need-cast-put-pair-2
+cast-put-pair-2 c = search needs
+
+put-pair-requires : tie.Need-put-pair-requires
+put-pair-requires c κs = search needs
+
+add-put-pair : tie.Need-add-put-pair
+add-put-pair c = search needs
+
+put-pair-requires-2 : tie.Need-put-pair-requires-2
+put-pair-requires-2 c κs = search needs
+
+add-put-pair-2 : tie.Need-add-put-pair-2
+add-put-pair-2 c = search needs
+
+put-pair-requires-3 : tie.Need-put-pair-requires-3
+put-pair-requires-3 c κs = search needs
+
+add-put-pair-3 : tie.Need-add-put-pair-3
+add-put-pair-3 c = search needs
+
+put-pair-requires-4 : tie.Need-put-pair-requires-4
+put-pair-requires-4 c κs = search needs
+
+same-length : tie.Need-same-length
+same-length c = search needs
+
+returns : tie.Need-returns
+returns c =
+    let fourth = c .before .before in
+    let third = fourth .before .before .before .before in
+    let second = third .before .before .before .before in
+    let first = second .before .before .before .before in
+    let in-hand = first .before .before .before .before .args in
+    let m = twoBytes (in-hand .receiver .m2) in
+    let a = in-hand .receiver .a2 in
+    let d = now (in-hand .out) in
+    sets-then (m ++ (a .0 ∷ a .1 ∷ a .2 ∷ a .3 ∷ [])) (a .4 ∷ a .5 ∷ []) d (in-hand .k)
+    (sets-then (m ++ (a .0 ∷ a .1 ∷ [])) (a .2 ∷ a .3 ∷ []) d (in-hand .k)
+    (sets-then m (a .0 ∷ a .1 ∷ []) d (in-hand .k) (first .put-pair .ensures) (second .put-pair2 .ensures))
+    (third .put-pair3 .ensures))
+    (fourth .put-pair4 .ensures)
+
+pub put-receiver-at-spec : {M : Type 1} → statement M
+put-receiver-at-spec =
+    tie.close
+    (tie.spec
+    cast-put-pair
+    cast-put-pair-2
+    put-pair-requires
+    add-put-pair
+    put-pair-requires-2
+    add-put-pair-2
+    put-pair-requires-3
+    add-put-pair-3
+    put-pair-requires-4
+    same-length
+    returns)
