@@ -1,0 +1,3 @@
+pub mod Table21Laws
+pub mod ExactLaws
+pub mod ListingLaws

@@ -1,0 +1,22 @@
+-- `channels::letter_of` meets its contract, letter by letter. Assumes nothing.
+use borrow.Author.Tests.{ne-eqb}
+use Rattle.channels.proofs.letter_of.Statement.{statement}
+use Rattle.channels.proofs.letter_of.Tie as tie
+
+returns : tie.Need-returns
+returns c = rw (c .match .keys1)
+
+returns-2 : tie.Need-returns-2
+returns-2 c = rw (c .match .keys2)
+
+returns-3 : tie.Need-returns-3
+returns-3 c = rw (c .match .keys3)
+
+returns-4 : tie.Need-returns-4
+returns-4 c = rw (c .match .keys4)
+
+returns-5 : tie.Need-returns-5
+returns-5 c = rw (ne-eqb _ 65 (c .match .rest .0 .0 .0 .1), ne-eqb _ 66 (c .match .rest .0 .0 .1), ne-eqb _ 67 (c .match .rest .0 .1), ne-eqb _ 68 (c .match .rest .1))
+
+pub letter-of-spec : {M : Type 1} → statement M
+letter-of-spec = tie.close (tie.spec returns returns-2 returns-3 returns-4 returns-5)

@@ -1,0 +1,3 @@
+pub mod Table21
+pub mod Plan
+pub mod Listing
