@@ -4,9 +4,12 @@
 --     gather-within   the b chips that stand a places into a window of a + b + c chips: shift c out, keep b
 --     chipAt-lt       a chip is 0 or 1
 --     wordAt-byte     the eight chips of the byte at q make that byte
-use mathlib.Core.Path.{_≡_}
+--     wordAt-grow     a window of whole bytes grows by the byte behind it
+--     wordAt-pair     the sixteen chips of two neighbouring bytes make the number of both
+--     wordAt-within   a word of at most nine chips is cut out of the sixteen chips of two neighbouring bytes
+use mathlib.Core.Path.{_≡_, ap, sym, _∙_}
 use mathlib.Core.List.{List}
-use Prim.Native.Nat.{ℕ, zero, suc, _+_, _*_, _-_, _/_, _%_, _^_, _<_}
+use Prim.Native.Nat.{ℕ, zero, suc, _+_, _*_, _-_, _/_, _%_, _^_, _<_, _≤_}
 use native.Mathlib.Nat.{add-zero, add-suc, add-assoc, mul-assoc, pow-suc}
 use native.Mathlib.Omega.{arith}
 use lib.ListN.{getD}
@@ -65,9 +68,20 @@ wordAt-byte s q h =
     rw (inByte s q 0 (omega arith), inByte s q 1 (omega arith), inByte s q 2 (omega arith), inByte s q 3 (omega arith), inByte s q 4 (omega arith), inByte s q 5 (omega arith), inByte s q 6 (omega arith), inByte s q 7 (omega arith))
     (digits (getD s q 0) h)
 
--- a window of w chips grows by the byte behind it
 pub wordAt-grow : (s : List ℕ) (q n : ℕ) → getD s (q + n) 0 < 256
     → wordAt s (8 * q) (8 * n + 8) ≡ wordAt s (8 * q) (8 * n) * 256 + getD s (q + n) 0
 wordAt-grow s q n h =
     let place : 8 * q + 8 * n ≡ 8 * (q + n) = omega arith in
     rw (gather-add (chipAt s) (8 * q) (8 * n) 8, place, wordAt-byte s (q + n) h)
+
+pub wordAt-pair : (s : List ℕ) (q : ℕ) → getD s q 0 < 256 → getD s (q + 1) 0 < 256
+    → wordAt s (8 * q) 16 ≡ getD s q 0 * 256 + getD s (q + 1) 0
+wordAt-pair s q h l = wordAt-grow s q 1 l ∙ rw (wordAt-byte s q h)
+
+pub wordAt-within : (s : List ℕ) (at w : ℕ) → w ≤ 9
+    → wordAt s (8 * (at / 8)) 16 / 2 ^ (16 - at % 8 - w) % 2 ^ w ≡ wordAt s at w
+wordAt-within s at w le =
+    let all : at % 8 + w + (16 - at % 8 - w) ≡ 16 = omega arith in
+    let place : 8 * (at / 8) + at % 8 ≡ at = omega arith in
+    ap (λ (n : ℕ). wordAt s (8 * (at / 8)) n / 2 ^ (16 - at % 8 - w) % 2 ^ w) (sym all)
+    ∙ (gather-within (chipAt s) (chipAt-lt s) (8 * (at / 8)) (at % 8) w (16 - at % 8 - w) ∙ ap (λ (n : ℕ). wordAt s n w) place)

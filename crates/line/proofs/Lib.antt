@@ -1,1 +1,2 @@
+pub mod CodeLaws
 pub mod ExampleLaws

@@ -4,11 +4,13 @@
 --     codeOf           which code each case of the enum Code is: the only place where the three differ
 --     codeWords        three-of-six: the code words of 0 to 15
 --     valueOf κ y      the number whose code word y is; NoWord where y is no code word
+--     Guess κ y r      r is the one number that the word y can stand for, whether or not y is a code word
 --     wordsIn κ n      how many words n bytes take
 --     chipsIn κ n      how many chips n bytes take
 use mathlib.Core.Bool.{cond}
+use mathlib.Core.Path.{_≡_}
 use mathlib.Core.List.{List, [], _∷_}
-use Prim.Native.Nat.{ℕ, zero, suc, _*_, _-_, _/_, _^_}
+use Prim.Native.Nat.{ℕ, zero, suc, _*_, _/_, _^_, _<_}
 use lib.Dec.{eqb}
 use lib.ListN.{getD}
 use Rattle.line.specs.declared.Code.{Code}
@@ -25,7 +27,7 @@ abbrev pub codeWords : List ℕ
 codeWords = 22 ∷ 13 ∷ 14 ∷ 11 ∷ 28 ∷ 25 ∷ 26 ∷ 19 ∷ 44 ∷ 37 ∷ 38 ∷ 35 ∷ 52 ∷ 49 ∷ 50 ∷ 41 ∷ []
 
 -- NRZ: a byte is its own word. Manchester: bit 0 is chips 10, bit 1 is chips 01.
-unfoldable pub codeOf : Code → LineCode
+abbrev pub codeOf : Code → LineCode
 codeOf Nrz = record { bits = 8; chips = 8; wordOf = λ x. x }
 codeOf ThreeOfSix = record { bits = 4; chips = 6; wordOf = λ x. getD codeWords x 0 }
 codeOf Manchester = record { bits = 1; chips = 2; wordOf = λ x. getD (2 ∷ 1 ∷ []) x 0 }
@@ -37,6 +39,11 @@ numberFor word y (suc n) = cond (eqb (word n) y) (Is n) (numberFor word y n)
 
 abbrev pub valueOf : LineCode → ℕ → Value
 valueOf κ y = numberFor (κ .wordOf) y (2 ^ κ .bits)
+
+-- r is the one number that the word y can stand for
+pub record Guess (κ : LineCode) (y r : ℕ) : Type 0 where
+  pub below : r < 2 ^ κ .bits
+  pub only : (x : ℕ) → x < 2 ^ κ .bits → κ .wordOf x ≡ y → r ≡ x
 
 abbrev pub wordsIn : LineCode → ℕ → ℕ
 wordsIn κ n = n * (8 / κ .bits)

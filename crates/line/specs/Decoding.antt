@@ -2,6 +2,7 @@
 --     valueAt κ s start i        what word i stands for, counted from chip `start` of s
 --     goodRun f m                how many of the words f 0, f 1, .. , f (m - 1) are code words before the first that is none
 --     numberIn v                 the number of a code word
+--     decodedChip κ s start k    bit k of what the words from chip `start` on stand for, one word after the other
 --     decoding κ s start n       the n bytes that the words from chip `start` on stand for
 --     decoded κ s start n d      the answer, and what the lent memory holds then, d before
 --     numberOf                   document 01's number of each answer
@@ -35,8 +36,11 @@ unfoldable pub goodRun : (ℕ → Value) → ℕ → ℕ
 goodRun f zero = 0
 goodRun f (suc m) = cond (eqb (goodRun f m) m) (cond (isWord (f m)) (suc m) m) (goodRun f m)
 
+abbrev pub decodedChip : LineCode → List ℕ → ℕ → ℕ → ℕ
+decodedChip κ s start = spread (κ .bits) (λ i. numberIn (valueAt κ s start i))
+
 unfoldable pub decoding : LineCode → List ℕ → ℕ → ℕ → List ℕ
-decoding κ s start n = packed (8 * n) (spread (κ .bits) (λ i. numberIn (valueAt κ s start i)))
+decoding κ s start n = packed (8 * n) (decodedChip κ s start)
 
 -- a refusal leaves the lent memory as it was
 abbrev pub refused : Decoded → List ℕ → Outcome Decoded

@@ -3,7 +3,7 @@
 --     numberOf           document 01's number of each answer; the place that goes with 6 is always 0 here
 use mathlib.Core.Bool.{cond}
 use mathlib.Core.List.{List}
-use Prim.Native.Nat.{ℕ, _+_, _*_}
+use Prim.Native.Nat.{ℕ, _+_}
 use lib.Dec.{ltb}
 use lib.ListN.{length}
 use Rattle.chips.specs.Chips.{wordAt, chipCount, roomLimit}
