@@ -1,0 +1,3 @@
+pub mod SealLaws
+pub mod SpanLaws
+pub mod CutLaws

@@ -1,0 +1,68 @@
+-- One span and its check: what stands where, and that a right check is what sealing writes.
+use mathlib.Core.Bool.{Bool, true, false, _&&_}
+use mathlib.Core.List.{List, [], _∷_, _++_, append-assoc}
+use mathlib.Core.Path.{_≡_, refl, ap, sym, _∙_}
+use Prim.Native.Nat.{ℕ, suc, _+_, _≤_, _<_, _/_, _%_}
+use native.Mathlib.Numerals.{add-one}
+use native.Mathlib.Omega.{arith}
+use borrow.Author.Tests.{eq-eqb, eqb-true}
+use lib.Dec.{eqb}
+use lib.ListN.{length, take, drop, getD, length-append, length-take}
+use lib.Seq.{take-at, drop-at, getD-at, take-suc}
+use Rattle.crc.specs.Check.{checkOf}
+use Rattle.spans.specs.Spans.{sealed, blockOk}
+
+pub length-sealed : (q : List ℕ) → length (sealed q) ≡ length q + 2
+unfolding sealed
+length-sealed q = length-append q (checkOf q / 256 ∷ checkOf q % 256 ∷ [])
+
+-- the whole list that begins with a sealed span, taken apart
+sealed-append : (q t : List ℕ) → sealed q ++ t ≡ q ++ checkOf q / 256 ∷ checkOf q % 256 ∷ t
+unfolding sealed
+sealed-append q t = append-assoc q (checkOf q / 256 ∷ checkOf q % 256 ∷ []) t
+
+module _ (q t : List ℕ) (k : ℕ) (e : length q ≡ k) where
+  pub take-sealed : take k (sealed q ++ t) ≡ q
+  take-sealed = rw (sealed-append q t) (take-at q (checkOf q / 256 ∷ checkOf q % 256 ∷ t) k e)
+
+  pub drop-sealed : drop (k + 2) (sealed q ++ t) ≡ t
+  drop-sealed = drop-at (sealed q) t (k + 2) (length-sealed q ∙ ap (λ (n : ℕ). n + 2) e)
+
+  pub getD-sealed-high : getD (sealed q ++ t) k 0 ≡ checkOf q / 256
+  getD-sealed-high = rw (sealed-append q t) (getD-at q (checkOf q / 256) (checkOf q % 256 ∷ t) 0 k e)
+
+  pub getD-sealed-low : getD (sealed q ++ t) (k + 1) 0 ≡ checkOf q % 256
+  getD-sealed-low =
+      rw (sealed-append q t, ← append-assoc q (checkOf q / 256 ∷ []) (checkOf q % 256 ∷ t))
+      (getD-at (q ++ checkOf q / 256 ∷ []) (checkOf q % 256) t 0 (k + 1) (length-append q (checkOf q / 256 ∷ []) ∙ ap (λ (n : ℕ). n + 1) e))
+
+  pub blockOk-sealed : blockOk k (sealed q ++ t) ≡ true
+  unfolding blockOk
+  blockOk-sealed = rw (take-sealed, getD-sealed-high, getD-sealed-low, eq-eqb (checkOf q / 256) (checkOf q / 256) refl, eq-eqb (checkOf q % 256) (checkOf q % 256) refl)
+
+-- both tests of an && that holds
+pub and-left : (a b : Bool) → a && b ≡ true → a ≡ true
+and-left true b h = refl
+and-left false b h = h
+
+pub and-right : (a b : Bool) → a && b ≡ true → b ≡ true
+and-right true b h = h
+and-right false b h = cc
+
+module _ (k : ℕ) (s : List ℕ) (ok : blockOk k s ≡ true) where
+  pub blockOk-high : getD s k 0 ≡ checkOf (take k s) / 256
+  unfolding blockOk
+  blockOk-high = eqb-true _ _ (and-left (eqb (getD s k 0) (checkOf (take k s) / 256)) (eqb (getD s (k + 1) 0) (checkOf (take k s) % 256)) ok)
+
+  pub blockOk-low : getD s (k + 1) 0 ≡ checkOf (take k s) % 256
+  unfolding blockOk
+  blockOk-low = eqb-true _ _ (and-right (eqb (getD s k 0) (checkOf (take k s) / 256)) (eqb (getD s (k + 1) 0) (checkOf (take k s) % 256)) ok)
+
+  -- a right check stands as sealing would write it
+  pub sealed-take : k + 2 ≤ length s → sealed (take k s) ≡ take (k + 2) s
+  unfolding sealed
+  sealed-take fits =
+      let two : take (suc (suc k)) s ≡ (take k s ++ (getD s k 0 ∷ [])) ++ (getD s (suc k) 0 ∷ [])
+            = take-suc s (suc k) 0 (omega arith) ∙ ap (λ (p : List ℕ). p ++ (getD s (suc k) 0 ∷ [])) (take-suc s k 0 (omega arith)) in
+      let e : k + 2 ≡ suc (suc k) = omega arith in
+      rw (← blockOk-high, ← blockOk-low, add-one k, e, two, append-assoc)
