@@ -1,9 +1,9 @@
 -- Cutting bytes into spans, one span at a time: `spans-turn` is what a turn of every walk cites.
-use mathlib.Core.List.{List, [], _∷_}
-use mathlib.Core.Path.{_≡_, refl, ap, sym, _∙_}
-use Prim.Native.Nat.{ℕ, zero, suc, _+_, _-_, _*_, _/_, _≤_, _<_, min}
+use mathlib.Core.List.{List, _∷_}
+use mathlib.Core.Path.{_≡_, refl, ap}
+use Prim.Native.Nat.{ℕ, zero, suc, _-_, _≤_, _<_, min}
 use native.Mathlib.Omega.{arith}
-use Rattle.spans.specs.Spans.{sizeOf, cut, spans}
+use Rattle.spans.specs.Spans.{cut, spans}
 use Rattle.spans.proofs.SpanLaws.{total}
 
 no-bytes : (left : ℕ) → suc left ≤ 0 → ⊥

@@ -1,3 +1,5 @@
 pub mod SealLaws
 pub mod SpanLaws
 pub mod CutLaws
+pub mod WalkLaws
+pub mod TurnLaws

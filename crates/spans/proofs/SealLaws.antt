@@ -1,14 +1,14 @@
 -- One span and its check: what stands where, and that a right check is what sealing writes.
 use mathlib.Core.Bool.{Bool, true, false, _&&_}
 use mathlib.Core.List.{List, [], _∷_, _++_, append-assoc}
-use mathlib.Core.Path.{_≡_, refl, ap, sym, _∙_}
-use Prim.Native.Nat.{ℕ, suc, _+_, _≤_, _<_, _/_, _%_}
+use mathlib.Core.Path.{_≡_, refl, ap, _∙_}
+use Prim.Native.Nat.{ℕ, suc, _+_, _≤_, _/_, _%_}
 use native.Mathlib.Numerals.{add-one}
 use native.Mathlib.Omega.{arith}
-use borrow.Author.Tests.{eq-eqb, eqb-true}
+use borrow.Author.Tests.{eq-eqb, ne-eqb, eqb-true}
 use lib.Dec.{eqb}
-use lib.ListN.{length, take, drop, getD, length-append, length-take}
-use lib.Seq.{take-at, drop-at, getD-at, take-suc}
+use lib.ListN.{length, take, drop, getD, length-append}
+use lib.Seq.{take-at, drop-at, getD-at, getD-drop, take-suc}
 use Rattle.crc.specs.Check.{checkOf}
 use Rattle.spans.specs.Spans.{sealed, blockOk}
 
@@ -63,6 +63,18 @@ module _ (k : ℕ) (s : List ℕ) (ok : blockOk k s ≡ true) where
   unfolding sealed
   sealed-take fits =
       let two : take (suc (suc k)) s ≡ (take k s ++ (getD s k 0 ∷ [])) ++ (getD s (suc k) 0 ∷ [])
-            = take-suc s (suc k) 0 (omega arith) ∙ ap (λ (p : List ℕ). p ++ (getD s (suc k) 0 ∷ [])) (take-suc s k 0 (omega arith)) in
+      = take-suc s (suc k) 0 (omega arith) ∙ ap (λ (p : List ℕ). p ++ (getD s (suc k) 0 ∷ [])) (take-suc s k 0 (omega arith)) in
       let e : k + 2 ≡ suc (suc k) = omega arith in
       rw (← blockOk-high, ← blockOk-low, add-one k, e, two, append-assoc)
+
+-- the two tests of a check, as the code makes them
+module _ (s : List ℕ) (at k : ℕ) where
+  pub blockOk-wrong : (getD s (at + k) 0 ≡ checkOf (take k (drop at s)) / 256 → ⊥) → blockOk k (drop at s) ≡ false
+  unfolding blockOk
+  blockOk-wrong h = rw (getD-drop at s k 0, ne-eqb (getD s (at + k) 0) (checkOf (take k (drop at s)) / 256) h)
+
+  pub blockOk-second : getD s (at + k) 0 ≡ checkOf (take k (drop at s)) / 256 → blockOk k (drop at s) ≡ eqb (getD s (at + k + 1) 0) (checkOf (take k (drop at s)) % 256)
+  unfolding blockOk
+  blockOk-second h =
+      let e : at + (k + 1) ≡ at + k + 1 = omega arith in
+      rw (getD-drop at s k 0, eq-eqb (getD s (at + k) 0) (checkOf (take k (drop at s)) / 256) h, getD-drop at s (k + 1) 0, e)

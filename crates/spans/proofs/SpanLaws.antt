@@ -2,14 +2,14 @@
 -- exactly when the bytes are what writing gives. `total ks` is the number of payload bytes.
 use mathlib.Core.Bool.{Bool, true, false, cond}
 use mathlib.Core.List.{List, [], _∷_, _++_, append-assoc}
-use mathlib.Core.Path.{_≡_, refl, ap, sym, _∙_}
-use Prim.Native.Nat.{ℕ, _+_, _≤_, _<_}
+use mathlib.Core.Path.{_≡_, refl, sym}
+use Prim.Native.Nat.{ℕ, _+_, _≤_}
 use native.Mathlib.Omega.{arith}
-use lib.ListN.{length, take, drop, length-append, length-take, length-drop, drop-of-length-le, take-append-drop}
-use lib.Seq.{take-at, drop-at, take-add, take-all, length-take-le}
+use lib.ListN.{length, take, drop, length-append, length-drop, drop-of-length-le, take-append-drop}
+use lib.Seq.{take-at, drop-at, take-add, length-take-le}
 use Rattle.spans.specs.declared.Checks.{Checks}
 use Rattle.spans.specs.declared.Checks.the-variants.{Right, Wrong}
-use Rattle.spans.specs.Spans.{sealed, framed, payload, blockOk, firstWrong, sizeOf}
+use Rattle.spans.specs.Spans.{framed, payload, blockOk, firstWrong, sizeOf}
 use Rattle.spans.proofs.SealLaws.{length-sealed, take-sealed, drop-sealed, blockOk-sealed, sealed-take}
 
 unfoldable pub total : List ℕ → ℕ
@@ -62,6 +62,6 @@ framed-payload b (k ∷ ks) s fits right =
     let e : length (take k s) ≡ k = length-take-le k s (omega arith) in
     let ok : blockOk k s ≡ true = firstWrong-head (blockOk k s) b (firstWrong (b + 1) ks (drop (k + 2) s)) right in
     let rest : framed ks (payload ks (drop (k + 2) s)) ≡ take (sizeOf ks) (drop (k + 2) s)
-          = framed-payload (b + 1) ks (drop (k + 2) s) (simp length-drop (omega arith)) (firstWrong-tail (blockOk k s) b (firstWrong (b + 1) ks (drop (k + 2) s)) right) in
+    = framed-payload (b + 1) ks (drop (k + 2) s) (simp length-drop (omega arith)) (firstWrong-tail (blockOk k s) b (firstWrong (b + 1) ks (drop (k + 2) s)) right) in
     rw (take-at (take k s) (payload ks (drop (k + 2) s)) k e, drop-at (take k s) (payload ks (drop (k + 2) s)) k e, rest, sealed-take k s ok (omega arith))
     (sym (take-add (k + 2) (sizeOf ks) s))

@@ -1,0 +1,91 @@
+-- One turn of a walk over spans: what taking the first span off does to each definition; and the first span of a
+-- frame, which begins with the length byte.
+use mathlib.Core.Bool.{cond}
+use mathlib.Core.List.{List, [], _∷_, _++_}
+use mathlib.Core.Path.{_≡_, refl, sym, _∙_}
+use Prim.Native.Nat.{ℕ, zero, suc, _+_, _-_, _≤_, _<_, min}
+use native.Mathlib.Nat.{min-zero}
+use native.Mathlib.Omega.{arith}
+use lib.ListN.{length, take, drop, length-drop}
+use lib.Seq.{drop-drop, paste}
+use Rattle.spans.specs.declared.Checks.the-variants.{Wrong}
+use Rattle.spans.specs.Spans.{sealed, framed, payload, blockOk, firstWrong, sizeOf, cut, spans}
+use Rattle.spans.proofs.CutLaws.{spans-turn}
+use Rattle.spans.proofs.WalkLaws.{written, copied, written-start, written-on, copied-on}
+
+module _ (most later left k : ℕ) (e : k ≡ min most left) (m : 0 < most) (l : 0 < later) (h : 0 < left) where
+  spans-on : spans most later left ≡ k ∷ spans later later (left - k)
+  spans-on = rw e (spans-turn most later left m l h)
+
+  pub sizeOf-turn : sizeOf (spans most later left) ≡ k + 2 + sizeOf (spans later later (left - k))
+  unfolding sizeOf
+  sizeOf-turn = rw spans-on
+
+  pub framed-turn : (p : List ℕ) → framed (spans most later left) p ≡ sealed (take k p) ++ framed (spans later later (left - k)) (drop k p)
+  unfolding framed
+  framed-turn p = rw spans-on
+
+  pub payload-turn : (s : List ℕ) → payload (spans most later left) s ≡ take k s ++ payload (spans later later (left - k)) (drop (k + 2) s)
+  unfolding payload
+  payload-turn s = rw spans-on
+
+  pub firstWrong-turn : (b at : ℕ) (s : List ℕ) → firstWrong b (spans most later left) (drop at s) ≡ cond (blockOk k (drop at s)) (firstWrong (b + 1) (spans later later (left - k)) (drop (at + (k + 2)) s)) (Wrong b)
+  unfolding firstWrong
+  firstWrong-turn b at s = rw (spans-on, ← drop-drop (k + 2) at s)
+
+  pub copied-turn : (at done : ℕ) (s d : List ℕ) → at + k ≤ length s → done + k ≤ length d → copied (paste d done (drop at s) k) (done + k) (spans later later (left - k)) (drop (at + (k + 2)) s) ≡ copied d done (spans most later left) (drop at s)
+  copied-turn at done s d there fits =
+      rw (spans-on, ← drop-drop (k + 2) at s)
+      (copied-on d done k (spans later later (left - k)) (drop at s) fits (simp length-drop (omega arith)))
+
+  pub written-turn : (at done : ℕ) (c d : List ℕ) → done + k ≤ length c → at + k + 2 ≤ length d → written (take at d ++ (sealed (take k (drop done c)) ++ drop (at + k + 2) d)) (at + (k + 2)) (spans later later (left - k)) (drop (done + k) c) ≡ written d at (spans most later left) (drop done c)
+  written-turn at done c d there fits =
+      rw (spans-on, ← drop-drop k done c)
+      (written-on d at k (spans later later (left - k)) (drop done c) fits (simp length-drop (omega arith)))
+
+-- the first span of a frame: the length byte and k bytes of the n behind it
+module _ (first later n : ℕ) (m : 1 < first) (l : 0 < later) where
+  spans-first : spans first later (n + 1) ≡ suc (min (first - 1) n) ∷ spans later later (n - min (first - 1) n)
+  spans-first =
+      let k : min first (n + 1) ≡ suc (min (first - 1) n) = omega arith in
+      let r : n + 1 - suc (min (first - 1) n) ≡ n - min (first - 1) n = omega arith in
+      rw (spans-turn first later (n + 1) (omega arith) l (omega arith), k, r)
+
+  pub sizeOf-first : sizeOf (spans first later (n + 1)) ≡ min (first - 1) n + 3 + sizeOf (spans later later (n - min (first - 1) n))
+  unfolding sizeOf
+  sizeOf-first = rw spans-first (omega arith)
+
+  pub written-first : (b : ℕ) (c d : List ℕ) → n ≡ length c → sizeOf (spans first later (n + 1)) ≤ length d → written (sealed (b ∷ take (min (first - 1) n) c) ++ drop (min (first - 1) n + 3) d) (min (first - 1) n + 3) (spans later later (n - min (first - 1) n)) (drop (min (first - 1) n) c) ≡ framed (spans first later (n + 1)) (b ∷ c) ++ drop (sizeOf (spans first later (n + 1))) d
+  written-first b c d e fits =
+      let k = min (first - 1) n in
+      let three : 0 + suc k + 2 ≡ k + 3 = omega arith in
+      let behind : 0 + (suc k + 2) ≡ k + 3 = omega arith in
+      let turn : written (take 0 d ++ (sealed (take (suc k) (b ∷ c)) ++ drop (0 + suc k + 2) d)) (0 + (suc k + 2)) (spans later later (n - k)) (drop (suc k) (b ∷ c)) ≡ written d 0 (suc k ∷ spans later later (n - k)) (b ∷ c)
+      = written-on d 0 (suc k) (spans later later (n - k)) (b ∷ c) (omega (arith, sizeOf-first)) (omega arith) in
+      rw (three, behind) at turn ∙ rw (← spans-first) (written-start d (spans first later (n + 1)) (b ∷ c))
+
+  payload-first : (b : ℕ) (s : List ℕ) → drop 1 (payload (spans first later (n + 1)) (b ∷ s)) ≡ take (min (first - 1) n) s ++ payload (spans later later (n - min (first - 1) n)) (drop (min (first - 1) n + 2) s)
+  unfolding payload
+  payload-first b s =
+      let e : suc (min (first - 1) n) + 2 ≡ suc (min (first - 1) n + 2) = omega arith in
+      rw (spans-first, e)
+
+no-byte : 0 < 0 → ⊥
+no-byte h = omega arith
+
+-- reading on behind the length byte is the same walk from place 1, with a first span that is one byte shorter
+pub payload-behind : (first later n : ℕ) → 1 < first → 0 < later → (s : List ℕ) → 0 < length s → drop 1 (payload (spans first later (n + 1)) s) ≡ payload (spans (first - 1) later n) (drop 1 s)
+unfolding payload cut
+payload-behind first later n m l [] h = absurd (no-byte h)
+payload-behind first later zero m l (b ∷ s) h =
+    let e : min (first - 1) 0 ≡ 0 = min-zero (first - 1) in
+    rw (payload-first first later 0 m l b s, e)
+payload-behind first later (suc n) m l (b ∷ s) h =
+    payload-first first later (suc n) m l b s
+    ∙ sym (payload-turn (first - 1) later (suc n) (min (first - 1) (suc n)) refl (omega arith) l (omega arith) s)
+
+pub sizeOf-behind : (first later n : ℕ) → 1 < first → 0 < later → 1 + sizeOf (spans (first - 1) later n) ≤ sizeOf (spans first later (n + 1))
+unfolding sizeOf cut
+sizeOf-behind first later zero m l = rw (sizeOf-first first later 0 m l) (omega arith)
+sizeOf-behind first later (suc n) m l =
+    rw (sizeOf-first first later (suc n) m l, sizeOf-turn (first - 1) later (suc n) (min (first - 1) (suc n)) refl (omega arith) l (omega arith)) (omega arith)
