@@ -1,3 +1,4 @@
 pub mod PassedLaws
 pub mod SearchLaws
+pub mod TailLaws
 pub mod WindowLaws

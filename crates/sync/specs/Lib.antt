@@ -1,2 +1,4 @@
 pub mod SyncSearch
 pub mod FirstMatch
+pub mod Kinds
+pub mod Tails

@@ -1,8 +1,10 @@
-// The search for the sync word that modes T and C share (document 01, "Sync search"; EN 13757-4:2019, 9.4.2).
+// The search for the sync word that modes T and C share, and the tail that tells them apart (document 01, "Sync search";
+// EN 13757-4:2019, 9.4.2).
 ghost use mathlib.Core.Path.{_≡_};
 ghost use Prim.Native.Nat.{_+_, _-_, _≤_, _<_, min};
 ghost use lib.ListN.{length};
 ghost use Rattle.chips.specs.Chips.{wordAt, chipCount, roomLimit};
+ghost use Rattle.sync.specs.Tails.{tailOf, kindFor};
 ghost use Rattle.sync.specs.SyncSearch.{positions, passed, searchOf, syncWord, syncWidth};
 
 // What a search found.
@@ -14,6 +16,26 @@ pub enum Sync {
     // The allowance, this many positions, was used up before the positions were.
     UsedUp(usize),
     // The buffer is too long, or the start lies behind it.
+    OutOfRange,
+}
+
+// The four kinds of frame in chips: mode or line code, and frame format. There is no other.
+pub enum Kind {
+    TWithA,
+    CWithA,
+    CWithB,
+    ManchesterWithA,
+}
+
+// What the sixteen chips behind a sync word say.
+pub enum Tail {
+    // A frame of this kind begins.
+    Begins(Kind),
+    // There are fewer than sixteen.
+    Short,
+    // They begin like a mode C tail and are none; the sync word stands at this place.
+    UnknownTail(usize),
+    // The buffer is too long, or the place lies behind it.
     OutOfRange,
 }
 
@@ -96,4 +118,37 @@ pub fn search(s: &[u8], start: usize, allowance: usize) -> Sync
     } else {
         Sync::UsedUp(allowance)
     }
+}
+
+// The kind that the tail t stands for, behind a sync word at `place`.
+fn kind_for(place: usize, t: usize) -> Tail
+    ensures { λ r. ⌜ r ≡ kindFor place t ⌝ }
+{
+    if t == 0x54CD {
+        return Tail::Begins(Kind::CWithA);
+    }
+    if t == 0x543D {
+        return Tail::Begins(Kind::CWithB);
+    }
+    if t / 1024 == 0b010101 {
+        return Tail::UnknownTail(place);
+    }
+    Tail::Begins(Kind::TWithA)
+}
+
+// What follows the sync word at `place`.
+pub fn tail_at(s: &[u8], place: usize) -> Tail
+    ensures { λ r. ⌜ r ≡ tailOf (now (s .entry)) place ⌝ }
+{
+    if s.len() > 1024 {
+        return Tail::OutOfRange;
+    }
+    let chips = s.len() * 8;
+    if place > chips {
+        return Tail::OutOfRange;
+    }
+    if chips - place < 32 {
+        return Tail::Short;
+    }
+    kind_for(place, word(s, place + 16))
 }

@@ -1,0 +1,57 @@
+-- Sending a frame in chips (document 01, "Sync search": sync chips, then the frame; unused chips of the last byte are 0,
+-- bytes after it stay; "Answer numbers": writing 5, 4).
+--     sentOf k c          the bytes that hold the chips of kind k for the content c
+--     sentSize k n        how many bytes they are, for n bytes of content
+--     sentChips k n       how many chips they are, the unused ones of the last byte not counted
+--     sendingOf k c d     BadContent if c is too short or too long for k's format; NoRoom if the lent d is shorter than
+--                         what is sent; else d begins with it
+--     SentAt k s place c  the chips of s from `place` on are those that sending c as kind k writes
+--     numberOf            document 01's number of each answer
+-- SentAt says nothing of how chips are received: "accepted exactly when" is measured by it.
+use mathlib.Core.Bool.{cond}
+use mathlib.Core.List.{List, _++_}
+use mathlib.Core.Path.{_≡_}
+use Prim.Native.Nat.{ℕ, _+_, _≤_, _<_}
+use lib.Dec.{ltb}
+use lib.ListN.{length, drop, getD}
+use Rattle.ground.specs.Outcome.{Outcome}
+use Rattle.chips.specs.Chips.{chipAt, chipCount}
+use Rattle.line.specs.Codes.{chipsIn}
+use Rattle.line.specs.Encoding.{encoding, sizeFor}
+use Rattle.frame.specs.Formats.{formOf, within, frameSize}
+use Rattle.frame.specs.Frames.{frameOf}
+use Rattle.sync.specs.declared.Kind.{Kind}
+use Rattle.sync.specs.Kinds.{syncBytes, leadOf}
+use Rattle.radio.specs.declared.Sent.{Sent}
+use Rattle.radio.specs.Kinds.{lineOf, formatOf}
+
+unfoldable pub sentOf : Kind → List ℕ → List ℕ
+sentOf k c = syncBytes k ++ encoding (lineOf k) (frameOf (formatOf k) c)
+
+unfoldable pub sentSize : Kind → ℕ → ℕ
+sentSize k n = length (syncBytes k) + sizeFor (lineOf k) (frameSize (formatOf k) n)
+
+unfoldable pub sentChips : Kind → ℕ → ℕ
+sentChips k n = leadOf k + chipsIn (lineOf k) (frameSize (formatOf k) n)
+
+unfoldable pub sendingOf : Kind → List ℕ → List ℕ → Outcome Sent
+sendingOf k c d =
+    cond (within (formOf (formatOf k) .shortest) (formOf (formatOf k) .longest) (length c))
+    (cond (ltb (length d) (sentSize k (length c)))
+    (record { answer = Sent.NoRoom; memory = d })
+    (record { answer = Sent.Accepted (sentSize k (length c)); memory = sentOf k c ++ drop (sentSize k (length c)) d }))
+    (record { answer = Sent.BadContent; memory = d })
+
+pub record SentAt (k : Kind) (s : List ℕ) (place : ℕ) (c : List ℕ) : Type 0 where
+  -- c is a content of bytes, neither too short nor too long for k's format
+  pub bytes : (i : ℕ) → getD c i 0 < 256
+  pub low : formOf (formatOf k) .shortest ≤ length c
+  pub high : length c ≤ formOf (formatOf k) .longest
+  -- every chip that is sent stands in s, from `place` on
+  pub whole : place + sentChips k (length c) ≤ chipCount s
+  pub chips : (i : ℕ) → i < sentChips k (length c) → chipAt s (place + i) ≡ chipAt (sentOf k c) i
+
+abbrev pub numberOf : Sent → ℕ
+numberOf (Sent.Accepted z) = 0
+numberOf Sent.NoRoom = 4
+numberOf Sent.BadContent = 5
