@@ -6,7 +6,7 @@
 --     checkOf-xor                the sum of two checks has no complement in it
 --     regOf-added                a sum in the register goes through later bytes as through zeros
 --     checkOf-changed            a check after one byte was changed: the old check and the share of the difference
---     regOf-lt, checkOf-lt       sixteen bits, whatever the numbers that stand for bytes
+--     regOf-lt .. checkOf-lt     sixteen bits, whatever the numbers that stand for bytes
 -- Assumes nothing.
 use mathlib.Core.Path.{_≡_, refl, sym, ap, ap₂, _∙_}
 use mathlib.Core.List.{List, [], _∷_, _++_}
@@ -148,6 +148,10 @@ pub regOf-lt : (r : ℕ) (bs : List ℕ) → r < 65536 → regOf r bs < 65536
 unfolding regOf
 regOf-lt r [] h = h
 regOf-lt r (b ∷ bs) h = regOf-lt (byteIn r b) bs (byteIn-lt r b)
+
+pub shareOf-lt : (x k : ℕ) → shareOf x k < 65536
+unfolding shareOf
+shareOf-lt x k = regOf-lt 0 (x ∷ replicate k 0) (omega arith)
 
 pub checkOf-lt : (bs : List ℕ) → checkOf bs < 65536
 unfolding checkOf
