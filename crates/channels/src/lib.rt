@@ -34,7 +34,19 @@ pub enum Hertz {
 pub fn row_at(index: usize) -> Row
     ensures { λ r. ⌜ r ≡ rowOf index ⌝ }
 {
-    if index < 14 { ROWS[index] } else { ROWS[0] }
+    if 14 <= index {
+        return Row {
+            centre: 0.0,
+            spacing: 0.0,
+            tolerance: 0.0,
+        };
+    }
+    let row = ROWS[index];
+    Row {
+        centre: row[0],
+        spacing: row[1],
+        tolerance: row[2],
+    }
 }
 
 // How many channels an index has.
