@@ -115,7 +115,8 @@ xors-zeros (x ∷ xs) = ap₂ {C = List ℕ} (λ (y : ℕ) (ys : List ℕ). y �
 -- what was added to the register earlier goes through the later bytes as through zeros
 pub regOf-added : (r s : ℕ) (xs : List ℕ) → regOf (bitXor r s) xs ≡ bitXor (regOf r xs) (regOf s (replicate (length xs) 0))
 regOf-added r s xs =
-    ap (regOf (bitXor r s)) (sym (xors-zeros xs)) ∙ regOf-xor r s xs (replicate (length xs) 0) (sym (length-replicate (length xs) 0))
+    ap (regOf (bitXor r s)) (sym (xors-zeros xs))
+    ∙ regOf-xor r s xs (replicate (length xs) 0) (sym (length-replicate (length xs) 0))
 
 byteIn-changed : (r old new : ℕ) → byteIn r new ≡ bitXor (byteIn r old) (byteIn 0 (bitXor old new))
 byteIn-changed r old new =
@@ -132,7 +133,8 @@ pub checkOf-changed : (old new : ℕ) (pre post : List ℕ)
     → checkOf (pre ++ (new ∷ post)) ≡ bitXor (checkOf (pre ++ (old ∷ post))) (shareOf (bitXor old new) (length post))
 unfolding checkOf
 checkOf-changed old new pre post =
-    ap (λ (v : ℕ). bitXor v 0xFFFF) (regOf-changed 0 old new pre post) ∙ xor-last (regOf 0 (pre ++ (old ∷ post))) (shareOf (bitXor old new) (length post)) 0xFFFF
+    ap (λ (v : ℕ). bitXor v 0xFFFF) (regOf-changed 0 old new pre post)
+    ∙ xor-last (regOf 0 (pre ++ (old ∷ post))) (shareOf (bitXor old new) (length post)) 0xFFFF
 
 -- ---- sixteen bits, whatever the bytes
 

@@ -5,7 +5,7 @@
 --     Mends c old new k r      01's own words: whatever the span, if it has the check c and the byte `old` with k bytes
 --                              behind it, then r is the check of the same span with the byte `new` there
 --     numberOf r, valueOf r    01's number for each answer, and the check beside it (0 where there is none)
--- That `updating` mends, and that nothing else does, are theorems: proofs/UpdateLaws.
+-- That `updating` mends, and that nothing else does, are theorems: proofs/UpdateLaws, proofs/SpanLaws.
 use mathlib.Core.Bool.{cond}
 use mathlib.Core.List.{List, _∷_, _++_}
 use mathlib.Core.Path.{_≡_}
