@@ -1,106 +1,120 @@
--- What the count of places before the first match means (specs/SyncSearch), for any sync word v of w chips.
+-- The count of places before the first at which a test f holds (specs/SyncSearch).
+--     passed-le                 it is at most the places there are
+--     passed-stands, -misses    f holds at the place where it stops short, and at none that it passed over
+--     passed-first, -none       it is settled by these two
+--     passed-stop, -on          the places in two runs: it stops in the first, or goes on in the second
+--     passed-more, -hit         a walk that has passed over all so far: one more place
+--     passed-same               it goes by what f says at these places, wherever they stand
 use mathlib.Core.Bool.{Bool, true, false, cond}
-use mathlib.Core.Path.{_≡_, refl}
-use mathlib.Core.List.{List}
+use mathlib.Core.Path.{_≡_, refl, sym, _∙_}
 use Prim.Native.Nat.{ℕ, zero, suc, _+_, _-_, _≤_, _<_}
-use native.Mathlib.Nat.{add-zero}
-use native.Mathlib.Numerals.{add-one}
+use native.Mathlib.Nat.{add-zero, not-suc-le-zero}
 use native.Mathlib.Omega.{arith}
-use borrow.Author.Tests.{eq-eqb, ne-eqb, eqb-true, eqb-false, ltb-true, ltb-false}
+use borrow.Author.Tests.{ltb-true, ltb-false}
 use lib.Dec.{ltb}
-use Rattle.chips.specs.Chips.{wordAt}
-use Rattle.sync.specs.SyncSearch.{passed, standsAt}
+use Rattle.sync.specs.SyncSearch.{passed}
 
-module _ (v w : ℕ) (s : List ℕ) where
-  -- the word stands at k: the search stops there
-  pub passed-here : (k m : ℕ) → wordAt s k w ≡ v → 0 < m → passed v w s k m ≡ 0
-  unfolding passed
-  passed-here k zero e h = refl
-  passed-here k (suc m) e h = rw (eq-eqb (wordAt s k w) v e)
+clash : true ≡ false → ⊥
+clash e = let z : _≡_ {A = ℕ} 0 1 = cc in omega arith
 
-  -- it does not: one place more is tried
-  pub passed-next : (k m : ℕ) → (wordAt s k w ≡ v → ⊥) → 0 < m → passed v w s k m ≡ 1 + passed v w s (k + 1) (m - 1)
-  unfolding passed
-  passed-next k zero n h = omega arith
-  passed-next k (suc m) n h =
-      let e : suc m - 1 ≡ m = omega arith in
-      rw (ne-eqb (wordAt s k w) v n, e, add-one k) (omega arith)
-
-  pub passed-le : (k m : ℕ) → passed v w s k m ≤ m
+module _ (f : ℕ → Bool) where
+  pub passed-le : (k m : ℕ) → passed f k m ≤ m
   unfolding passed
   passed-le k zero = omega arith
-  passed-le k (suc m) = by-test (standsAt v w s k) (passed v w s (suc k) m) m (passed-le (suc k) m)
+  passed-le k (suc m) = by-test (f k) (passed f (suc k) m) (passed-le (suc k) m)
     where
-      by-test : (t : Bool) (p m : ℕ) → p ≤ m → cond t 0 (suc p) ≤ suc m
-      by-test true p m h = omega arith
-      by-test false p m h = omega arith
+      by-test : (t : Bool) (p : ℕ) → p ≤ m → cond t 0 (suc p) ≤ suc m
+      by-test true p h = omega arith
+      by-test false p h = omega arith
 
-  -- i places from `start` on were passed over, and m - i are left: the count so far and what is left make the whole
-  pub passed-start : (start m : ℕ) → 0 + passed v w s (start + 0) (m - 0) ≡ passed v w s start m
-  passed-start start m =
-      let e : m - 0 ≡ m = omega arith in
-      rw (add-zero start, e) (omega arith)
-
-  pub passed-turn : (start m i : ℕ) → (wordAt s (start + i) w ≡ v → ⊥) → i < m
-      → i + passed v w s (start + i) (m - i) ≡ passed v w s start m
-      → i + 1 + passed v w s (start + (i + 1)) (m - (i + 1)) ≡ passed v w s start m
-  passed-turn start m i miss h e =
-      let place : start + (i + 1) ≡ start + i + 1 = omega arith in
-      let left : m - (i + 1) ≡ m - i - 1 = omega arith in
-      let next : passed v w s (start + i) (m - i) ≡ 1 + passed v w s (start + i + 1) (m - i - 1) =
-      passed-next (start + i) (m - i) miss (omega arith) in
-      rw (place, left) (omega arith)
-
-  -- the search stopped before the end: there the word stands
-  pub passed-stands : (k m : ℕ) → passed v w s k m < m → wordAt s (k + passed v w s k m) w ≡ v
+  -- it stopped before the end: there f holds
+  pub passed-stands : (k m : ℕ) → passed f k m < m → f (k + passed f k m) ≡ true
   unfolding passed
-  passed-stands k zero h = omega arith
-  passed-stands k (suc m) h =
-      by-test (standsAt v w s k) refl (passed v w s (suc k) m) h (λ g. passed-stands (suc k) m g)
+  passed-stands k zero h = absurd (not-suc-le-zero h)
+  passed-stands k (suc m) h = by-test (f k) refl (passed f (suc k) m) h (passed-stands (suc k) m)
     where
-      by-test : (t : Bool) → standsAt v w s k ≡ t → (p : ℕ) → cond t 0 (suc p) < suc m
-          → (p < m → wordAt s (suc k + p) w ≡ v) → wordAt s (k + cond t 0 (suc p)) w ≡ v
-      by-test true e p g rest = rw add-zero (eqb-true (wordAt s k w) v e)
+      by-test : (t : Bool) → f k ≡ t → (p : ℕ) → cond t 0 (suc p) < suc m → (p < m → f (suc k + p) ≡ true) → f (k + cond t 0 (suc p)) ≡ true
+      by-test true e p g rest = rw add-zero e
       by-test false e p g rest =
           let place : k + suc p ≡ suc k + p = omega arith in
           rw place (rest (omega arith))
 
-  -- at no place that it passed over does it stand
-  pub passed-misses : (k m j : ℕ) → j < passed v w s k m → wordAt s (k + j) w ≡ v → ⊥
+  pub passed-misses : (k m j : ℕ) → j < passed f k m → f (k + j) ≡ false
   unfolding passed
-  passed-misses k zero j h e = omega arith
-  passed-misses k (suc m) j h e =
-      by-test (standsAt v w s k) refl (passed v w s (suc k) m) h (λ i g. passed-misses (suc k) m i g) j h e
+  passed-misses k zero j h = absurd (not-suc-le-zero h)
+  passed-misses k (suc m) j h = by-test (f k) refl (passed f (suc k) m) (passed-misses (suc k) m) j h
     where
-      by-test : (t : Bool) → standsAt v w s k ≡ t → (p : ℕ) → j < cond t 0 (suc p)
-          → ((i : ℕ) → i < p → wordAt s (suc k + i) w ≡ v → ⊥)
-          → (j : ℕ) → j < cond t 0 (suc p) → wordAt s (k + j) w ≡ v → ⊥
-      by-test true d p g rest j h e = omega arith
-      by-test false d p g rest zero h e = eqb-false (wordAt s k w) v d (rw add-zero at e)
-      by-test false d p g rest (suc i) h e =
-          let place : suc k + i ≡ k + suc i = omega arith in
-          rest i (omega arith) (rw place e)
+      by-test : (t : Bool) → f k ≡ t → (p : ℕ) → ((i : ℕ) → i < p → f (suc k + i) ≡ false) → (j : ℕ) → j < cond t 0 (suc p) → f (k + j) ≡ false
+      by-test true d p rest j h = absurd (not-suc-le-zero h)
+      by-test false d p rest zero h = rw add-zero d
+      by-test false d p rest (suc i) h =
+          let place : k + suc i ≡ suc k + i = omega arith in
+          rw place (rest i (omega arith))
 
-  -- the word stands i places on and nowhere before: i places are passed over
-  pub passed-first : (k m i : ℕ) → i < m → wordAt s (k + i) w ≡ v → ((j : ℕ) → j < i → wordAt s (k + j) w ≡ v → ⊥)
-      → passed v w s k m ≡ i
+  -- f holds i places on and nowhere before: i places are passed over
+  pub passed-first : (k m i : ℕ) → i < m → f (k + i) ≡ true → ((j : ℕ) → j < i → f (k + j) ≡ false) → passed f k m ≡ i
   passed-first k m i h e miss =
-      by-tests (passed v w s k m) (λ l. passed-stands k m l) (λ l. passed-misses k m i l e) (ltb (passed v w s k m) i) (ltb i (passed v w s k m)) refl refl
+      by-tests (passed f k m) (passed-stands k m) (λ l. clash (sym e ∙ passed-misses k m i l)) (ltb (passed f k m) i) (ltb i (passed f k m)) refl refl
     where
-      by-tests : (p : ℕ) → (p < m → wordAt s (k + p) w ≡ v) → (i < p → ⊥)
-          → (t u : Bool) → ltb p i ≡ t → ltb i p ≡ u → p ≡ i
-      by-tests p stands past true u d f =
+      by-tests : (p : ℕ) → (p < m → f (k + p) ≡ true) → (i < p → ⊥) → (t u : Bool) → ltb p i ≡ t → ltb i p ≡ u → p ≡ i
+      by-tests p stands past true u d g =
           let l : p < i = ltb-true p i d in
-          absurd (miss p l (stands (omega arith)))
-      by-tests p stands past false true d f = absurd (past (ltb-true i p f))
-      by-tests p stands past false false d f = omega (arith, ltb-false p i d, ltb-false i p f)
+          absurd (clash (sym (stands (omega arith)) ∙ miss p l))
+      by-tests p stands past false true d g = absurd (past (ltb-true i p g))
+      by-tests p stands past false false d g = omega (arith, ltb-false p i d, ltb-false i p g)
 
-  -- it stands at none of them: all are passed over
-  pub passed-none : (k m : ℕ) → ((j : ℕ) → j < m → wordAt s (k + j) w ≡ v → ⊥) → passed v w s k m ≡ m
-  passed-none k m miss = by-test (ltb (passed v w s k m) m) refl
+  -- it holds at none of them: all are passed over
+  pub passed-none : (k m : ℕ) → ((j : ℕ) → j < m → f (k + j) ≡ false) → passed f k m ≡ m
+  passed-none k m miss = by-test (ltb (passed f k m) m) refl
     where
-      by-test : (t : Bool) → ltb (passed v w s k m) m ≡ t → passed v w s k m ≡ m
+      by-test : (t : Bool) → ltb (passed f k m) m ≡ t → passed f k m ≡ m
       by-test true d =
-          let l : passed v w s k m < m = ltb-true (passed v w s k m) m d in
-          absurd (miss (passed v w s k m) l (passed-stands k m l))
-      by-test false d = omega (arith, passed-le k m, ltb-false (passed v w s k m) m d)
+          let l : passed f k m < m = ltb-true (passed f k m) m d in
+          absurd (clash (sym (passed-stands k m l) ∙ miss (passed f k m) l))
+      by-test false d = omega (arith, passed-le k m, ltb-false (passed f k m) m d)
+
+  -- m places, of which the first a are a run of their own
+  pub passed-stop : (k a m : ℕ) → a ≤ m → passed f k a < a → passed f k m ≡ passed f k a
+  passed-stop k a m h l =
+      passed-first k m (passed f k a) (omega arith) (passed-stands k a l) (λ j g. passed-misses k a j g)
+
+  pub passed-on : (k a b : ℕ) → a ≤ passed f k a → passed f k (a + b) ≡ a + passed f (k + a) b
+  passed-on k a b h = by-test (ltb (passed f (k + a) b) b) refl
+    where
+      miss : (j : ℕ) → (t : Bool) → ltb j a ≡ t → j < a + passed f (k + a) b → f (k + j) ≡ false
+      miss j true e l = passed-misses k a j (omega (arith, ltb-true j a e))
+      miss j false e l =
+          let past : a ≤ j = ltb-false j a e in
+          let place : k + j ≡ k + a + (j - a) = omega arith in
+          rw place (passed-misses (k + a) b (j - a) (omega arith))
+
+      by-test : (t : Bool) → ltb (passed f (k + a) b) b ≡ t → passed f k (a + b) ≡ a + passed f (k + a) b
+      by-test true e =
+          let l : passed f (k + a) b < b = ltb-true (passed f (k + a) b) b e in
+          let place : k + (a + passed f (k + a) b) ≡ k + a + passed f (k + a) b = omega arith in
+          passed-first k (a + b) (a + passed f (k + a) b) (omega arith) (rw place (passed-stands (k + a) b l)) (λ j g. miss j (ltb j a) refl g)
+      by-test false e =
+          let all : passed f (k + a) b ≡ b = omega (arith, passed-le (k + a) b, ltb-false (passed f (k + a) b) b e) in
+          passed-none k (a + b) (λ j g. miss j (ltb j a) refl (omega arith)) ∙ omega arith
+
+  -- a walk that has passed over j places: one more, or none
+  pub passed-more : (k j : ℕ) → j ≤ passed f k j → f (k + j) ≡ false → j + 1 ≤ passed f k (j + 1)
+  unfolding passed
+  passed-more k j h e =
+      let one : passed f (k + j) 1 ≡ 1 = rw e in
+      omega (arith, passed-on k j 1 h)
+
+  pub passed-hit : (k j m : ℕ) → j ≤ passed f k j → f (k + j) ≡ true → j < m → passed f k m ≡ j
+  passed-hit k j m h e l = passed-first k m j l e (λ i g. passed-misses k j i (omega arith))
+
+pub passed-same : (f g : ℕ → Bool) (k l m : ℕ) → ((j : ℕ) → j < m → f (k + j) ≡ g (l + j)) → passed f k m ≡ passed g l m
+unfolding passed
+passed-same f g k l zero same = refl
+passed-same f g k l (suc m) same =
+    let here : f k ≡ g l = rw (add-zero k, add-zero l) at (same 0 (omega arith)) in
+    let rest : passed f (suc k) m ≡ passed g (suc l) m =
+    passed-same f g (suc k) (suc l) m (λ j h.
+    let kj : suc k + j ≡ k + suc j = omega arith in
+    let lj : suc l + j ≡ l + suc j = omega arith in
+    rw (kj, lj) (same (suc j) (omega arith))) in
+    rw (here, rest)

@@ -9,11 +9,11 @@ use mathlib.Core.Path.{_≡_, refl, sym, _∙_}
 use mathlib.Core.List.{List}
 use Prim.Native.Nat.{ℕ, _+_, _-_, _≤_, _<_, min}
 use native.Mathlib.Omega.{arith}
-use borrow.Author.Tests.{lt-ltb, le-ltb, le-leb, lt-leb, ltb-true, ltb-false, leb-true, leb-false}
+use borrow.Author.Tests.{lt-ltb, le-ltb, le-leb, lt-leb, ltb-true, ltb-false, leb-true, leb-false, eqb-true, eqb-false, eq-eqb, ne-eqb}
 use lib.Dec.{ltb, leb}
 use lib.ListN.{length}
-use Rattle.chips.specs.Chips.{chipCount, roomLimit}
-use Rattle.sync.specs.SyncSearch.{passed, positions, reach, outcomeOf, nowhere, searchFor}
+use Rattle.chips.specs.Chips.{wordAt, chipCount, roomLimit}
+use Rattle.sync.specs.SyncSearch.{passed, standsAt, positions, reach, outcomeOf, nowhere, searchFor}
 use Rattle.sync.specs.FirstMatch.{FirstAt, Nowhere}
 use Rattle.sync.specs.declared.Sync.{Sync}
 use Rattle.sync.specs.declared.Sync.the-variants.{Found, NoSync, UsedUp, OutOfRange}
@@ -34,12 +34,12 @@ module _ (v w : ℕ) (s : List ℕ) (start a : ℕ) where
 
   pub searchFor-in : length s ≤ roomLimit → start ≤ chipCount s
       → searchFor v w s start a
-      ≡ outcomeOf start a (positions w s start) (passed v w s start (reach a (positions w s start)))
+      ≡ outcomeOf start a (positions w s start) (passed (standsAt v w s) start (reach a (positions w s start)))
   unfolding searchFor
   searchFor-in h g = rw (le-leb (length s) roomLimit h, le-leb start (chipCount s) g)
 
   -- p positions, m of them allowed, i passed over
-  module _ (p m i : ℕ) (h : length s ≤ roomLimit) (g : start ≤ chipCount s) (ep : p ≡ positions w s start) (em : m ≡ min a p) (ei : i ≡ passed v w s start m) where
+  module _ (p m i : ℕ) (h : length s ≤ roomLimit) (g : start ≤ chipCount s) (ep : p ≡ positions w s start) (em : m ≡ min a p) (ei : i ≡ passed (standsAt v w s) start m) where
     at-hand : searchFor v w s start a ≡ outcomeOf start a p i
     at-hand = searchFor-in h g ∙ rw (← ep, ← em, ← ei)
 
@@ -59,7 +59,7 @@ module _ (v w : ℕ) (s : List ℕ) (start a : ℕ) where
       by-tests (leb (length s) roomLimit) (leb start (chipCount s)) refl refl e
     where
       by-tests : (t u : Bool) → leb (length s) roomLimit ≡ t → leb start (chipCount s) ≡ u
-          → cond (cond t u false) (outcomeOf start a (positions w s start) (passed v w s start (reach a (positions w s start)))) OutOfRange ≡ n
+          → cond (cond t u false) (outcomeOf start a (positions w s start) (passed (standsAt v w s) start (reach a (positions w s start)))) OutOfRange ≡ n
           → (length s ≤ roomLimit) × (start ≤ chipCount s)
       by-tests true true d f g = (leb-true (length s) roomLimit d, leb-true start (chipCount s) f)
       by-tests true false d f g = absurd (miss (sym g))
@@ -70,7 +70,7 @@ module _ (v w : ℕ) (s : List ℕ) (start a : ℕ) where
   most = reach a (positions w s start)
 
   abbrev gone : ℕ
-  gone = passed v w s start most
+  gone = passed (standsAt v w s) start most
 
   -- what an answer says of the two tests that made it
   found-test : (k t : ℕ) (b : Bool) → ltb gone most ≡ b → cond b (Found (start + gone) (gone + 1)) (nowhere a (positions w s start)) ≡ Found k t
@@ -82,6 +82,12 @@ module _ (v w : ℕ) (s : List ℕ) (start a : ℕ) where
       by-test true d = let z : _≡_ {A = ℕ} 0 1 = cc in omega arith
       by-test false d = let z : _≡_ {A = ℕ} 0 1 = cc in omega arith
 
+  -- a place that was passed over
+  missed-at : (j : ℕ) → start ≤ j → j < start + gone → wordAt s j w ≡ v → ⊥
+  missed-at j l m d =
+      let q : start + (j - start) ≡ j = omega arith in
+      eqb-false (wordAt s j w) v (rw q at (passed-misses (standsAt v w s) start most (j - start) (omega arith))) d
+
   pub found-first : (k t : ℕ) → searchFor v w s start a ≡ Found k t → FirstAt v w s start a k t
   found-first k t e =
       let r = in-range (Found k t) e (λ d. let z : _≡_ {A = ℕ} 0 1 = cc in omega arith) in
@@ -89,8 +95,8 @@ module _ (v w : ℕ) (s : List ℕ) (start a : ℕ) where
       record {
         behind = omega arith;
         whole = omega arith;
-        stands = rw (f .1 .0) (passed-stands v w s start most (f .0));
-        first = λ j l m d. passed-misses v w s start most (j - start) (omega arith) (let q : start + (j - start) ≡ j = omega arith in rw q d);
+        stands = rw (f .1 .0) (eqb-true (wordAt s (start + gone) w) v (passed-stands (standsAt v w s) start most (f .0)));
+        first = λ j l m d. missed-at j l (omega arith) d;
         counted = omega arith;
         allowed = omega arith;
       }
@@ -99,7 +105,7 @@ module _ (v w : ℕ) (s : List ℕ) (start a : ℕ) where
   first-found k t h f =
       let place : start + (k - start) ≡ k = omega (arith, f) in
       let i : gone ≡ k - start =
-      passed-first v w s start most (k - start) (omega (arith, f)) (rw place (f .stands)) (λ j l d. f .first (start + j) (omega arith) (omega arith) d) in
+      passed-first (standsAt v w s) start most (k - start) (omega (arith, f)) (eq-eqb (wordAt s (start + (k - start)) w) v (rw place (f .stands))) (λ j l. ne-eqb (wordAt s (start + j) w) v (f .first (start + j) (omega arith) (omega arith))) in
       let g : start ≤ chipCount s = omega (arith, f) in
       let d : searchFor v w s start a ≡ Found (start + gone) (gone + 1) =
       searchFor-found (positions w s start) most gone h g refl refl refl (omega (arith, f)) in
@@ -115,9 +121,7 @@ module _ (v w : ℕ) (s : List ℕ) (start a : ℕ) where
 
   -- all that may be tried were passed over: the word stands at none of them
   missed : most ≤ gone → Nowhere v w s start most
-  missed l j b m d =
-      let q : start + (j - start) ≡ j = omega arith in
-      passed-misses v w s start most (j - start) (omega arith) (rw q d)
+  missed l j b m d = missed-at j b (omega arith) d
 
   pub nosync-nowhere : (t : ℕ) → searchFor v w s start a ≡ NoSync t
       → (t ≡ positions w s start) × ((t ≤ a) × Nowhere v w s start t)
@@ -148,7 +152,7 @@ module _ (v w : ℕ) (s : List ℕ) (start a : ℕ) where
       by-test false d f = (cc, leb-false (positions w s start) a d)
 
   passed-all : Nowhere v w s start most → gone ≡ most
-  passed-all miss = passed-none v w s start most (λ j l d. miss (start + j) (omega arith) (omega arith) d)
+  passed-all miss = passed-none (standsAt v w s) start most (λ j l. ne-eqb (wordAt s (start + j) w) v (miss (start + j) (omega arith) (omega arith)))
 
   pub nowhere-nosync : length s ≤ roomLimit → start ≤ chipCount s → positions w s start ≤ a
       → Nowhere v w s start (positions w s start) → searchFor v w s start a ≡ NoSync (positions w s start)

@@ -1,7 +1,7 @@
 -- The sync search (document 01, "Sync search"; EN 13757-4:2019, 9.4.2), for any sync word v of w chips.
 --     standsAt v w s k           do the w chips at place k of the bytes s make the number v?
 --     positions w s start        how many places from `start` on have w chips: chips - w - start + 1, or 0 if negative
---     passed v w s k m           how many of the m places from k on are tried before the first at which v stands
+--     passed f k m               how many of the m places from k on are tried before the first at which f holds
 --     reach a p                  how many places a search may try: the smaller of the allowance a and the positions p
 --     searchFor v w s start a    the search's answer; `numberOf` gives its number in document 01
 --     syncWord, syncWidth        what modes T and C share: 543Dh, the 16 chips 0101010000111101
@@ -22,9 +22,9 @@ standsAt v w s k = eqb (wordAt s k w) v
 abbrev pub positions : ℕ → List ℕ → ℕ → ℕ
 positions w s start = chipCount s + 1 - w - start
 
-unfoldable pub passed : ℕ → ℕ → List ℕ → ℕ → ℕ → ℕ
-passed v w s k zero = 0
-passed v w s k (suc m) = cond (standsAt v w s k) 0 (suc (passed v w s (suc k) m))
+unfoldable pub passed : (ℕ → Bool) → ℕ → ℕ → ℕ
+passed f k zero = 0
+passed f k (suc m) = cond (f k) 0 (suc (passed f (suc k) m))
 
 abbrev pub reach : ℕ → ℕ → ℕ
 reach a p = min a p
@@ -44,7 +44,7 @@ inRange s start = cond (leb (length s) roomLimit) (leb start (chipCount s)) fals
 unfoldable pub searchFor : ℕ → ℕ → List ℕ → ℕ → ℕ → Sync
 searchFor v w s start a =
     cond (inRange s start)
-    (outcomeOf start a (positions w s start) (passed v w s start (reach a (positions w s start))))
+    (outcomeOf start a (positions w s start) (passed (standsAt v w s) start (reach a (positions w s start))))
     OutOfRange
 
 abbrev pub syncWord : ℕ

@@ -1,11 +1,12 @@
 // The search for the sync word that modes T and C share, and the tail that tells them apart (document 01, "Sync search";
 // EN 13757-4:2019, 9.4.2).
 ghost use mathlib.Core.Path.{_≡_};
-ghost use Prim.Native.Nat.{_+_, _-_, _≤_, _<_, min};
-ghost use lib.ListN.{length};
+ghost use Prim.Native.Nat.{_+_, _*_, _-_, _/_, _%_, _^_, _≤_, _<_, min};
+ghost use lib.Dec.{eqb};
+ghost use lib.ListN.{length, getD};
 ghost use Rattle.chips.specs.Chips.{wordAt, chipCount, roomLimit};
 ghost use Rattle.sync.specs.Tails.{tailOf, kindFor};
-ghost use Rattle.sync.specs.SyncSearch.{positions, passed, searchOf, syncWord, syncWidth};
+ghost use Rattle.sync.specs.SyncSearch.{positions, passed, standsAt, searchOf, syncWord, syncWidth};
 
 // What a search found.
 pub enum Sync {
@@ -46,29 +47,86 @@ fn wide(b: u8) -> usize
     b as usize
 }
 
-// The sixteen chips at place k, out of the two or three bytes that hold them.
-fn word(s: &[u8], k: usize) -> usize
-    requires { ⌜ (k + 16 ≤ chipCount (now s)) × (length (now s) ≤ roomLimit) ⌝ }
-    ensures { λ r. ⌜ r ≡ wordAt (now (s .entry)) k 16 ⌝ }
+// A byte of the buffer, 0 behind its end.
+fn byte_at(s: &[u8], k: usize) -> usize
+    ensures { λ r. ⌜ (r ≡ getD (now (s .entry)) k 0) × (r < 256) ⌝ }
 {
-    let first = k / 8;
-    let last = (k + 15) / 8;
-    let window = wide(s[first]) * 65536 + wide(s[first + 1]) * 256 + wide(s[last]);
-    let below = (8 - k % 8) as u32;
-    (window >> below) % 65536
+    if k < s.len() {
+        return wide(s[k]);
+    }
+    0
 }
 
-// How many places of the m from k on are tried before the word stands.
+// Four bytes as one number, first byte highest.
+fn four(a: usize, b: usize, c: usize, d: usize) -> usize
+    requires { ⌜ ((a < 256) × (b < 256)) × ((c < 256) × (d < 256)) ⌝ }
+    ensures { λ r. ⌜ (r ≡ ((a * 256 + b) * 256 + c) * 256 + d) × (r < 4294967296) ⌝ }
+{
+    ((a * 256 + b) * 256 + c) * 256 + d
+}
+
+// The 32 chips from byte q on, chips behind the buffer's end being 0.
+fn half(s: &[u8], q: usize) -> usize
+    requires { ⌜ q ≤ roomLimit + 4 ⌝ }
+    ensures { λ r. ⌜ (r ≡ wordAt (now (s .entry)) (8 * q) 32) × (r < 4294967296) ⌝ }
+{
+    if q + 4 <= s.len() {
+        return four(wide(s[q]), wide(s[q + 1]), wide(s[q + 2]), wide(s[q + 3]));
+    }
+    four(
+        byte_at(s, q),
+        byte_at(s, q + 1),
+        byte_at(s, q + 2),
+        byte_at(s, q + 3),
+    )
+}
+
+// The 64 chips from byte q on.
+fn window(s: &[u8], q: usize) -> usize
+    requires { ⌜ q ≤ roomLimit ⌝ }
+    ensures { λ r. ⌜ r ≡ wordAt (now (s .entry)) (8 * q) 64 ⌝ }
+{
+    half(s, q) * 4294967296 + half(s, q + 4)
+}
+
+// The sixteen chips at place r of the 64 chips x.
+fn within(x: usize, r: usize) -> usize
+    requires { ⌜ r ≤ 48 ⌝ }
+    ensures { λ p. ⌜ p ≡ x / 2 ^ (48 - r) % 65536 ⌝ }
+{
+    let below = (48 - r) as u32;
+    (x >> below) % 65536
+}
+
+// How many of the n places from r on are tried before the word stands in the 64 chips x.
+fn first_in(x: usize, r: usize, n: usize) -> usize
+    requires { ⌜ r + n ≤ 49 ⌝ }
+    ensures { λ p. ⌜ p ≡ passed (λ j. eqb (x / 2 ^ (48 - j) % 65536) syncWord) r n ⌝ }
+{
+    let mut j: usize = 0;
+    while j < n {
+        if within(x, r + j) == 0x543D {
+            return j;
+        }
+        j += 1;
+    }
+    j
+}
+
+// How many places of the m from `start` on are tried before the word stands: a window of 64 chips holds up to 49 places.
 fn scan(s: &[u8], start: usize, m: usize) -> usize
     requires { ⌜ (m ≤ positions syncWidth (now s) start) × (length (now s) ≤ roomLimit) ⌝ }
-    ensures { λ r. ⌜ r ≡ passed syncWord syncWidth (now (s .entry)) start m ⌝ }
+    ensures { λ r. ⌜ r ≡ passed (standsAt syncWord syncWidth (now (s .entry))) start m ⌝ }
 {
     let mut i: usize = 0;
     while i < m {
-        if word(s, start + i) == 0x543D {
-            return i;
+        let k = start + i;
+        let n = smaller(m - i, 49 - k % 8);
+        let j = first_in(window(s, k / 8), k % 8, n);
+        if j < n {
+            return i + j;
         }
-        i += 1;
+        i += n;
     }
     i
 }
@@ -150,5 +208,6 @@ pub fn tail_at(s: &[u8], place: usize) -> Tail
     if chips - place < 32 {
         return Tail::Short;
     }
-    kind_for(place, word(s, place + 16))
+    let k = place + 16;
+    kind_for(place, within(window(s, k / 8), k % 8))
 }
