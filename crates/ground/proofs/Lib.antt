@@ -1,3 +1,4 @@
+pub mod BitLaws
 pub mod Settled
 pub mod XorLaws
 pub mod TableLaws

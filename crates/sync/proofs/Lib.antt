@@ -1,3 +1,4 @@
+pub mod MarkLaws
 pub mod PassedLaws
 pub mod SearchLaws
 pub mod TailLaws

@@ -1,7 +1,8 @@
 // The search for the sync word that modes T and C share, and the tail that tells them apart (document 01, "Sync search";
 // EN 13757-4:2019, 9.4.2).
+ghost use mathlib.Core.Bool.{true};
 ghost use mathlib.Core.Path.{_≡_};
-ghost use Prim.Native.Nat.{_+_, _*_, _-_, _/_, _%_, _^_, _≤_, _<_, min};
+ghost use Prim.Native.Nat.{ℕ, _+_, _*_, _-_, _/_, _%_, _^_, _≤_, _<_, min};
 ghost use lib.Dec.{eqb};
 ghost use lib.ListN.{length, getD};
 ghost use Rattle.chips.specs.Chips.{wordAt, chipCount, roomLimit};
@@ -98,11 +99,35 @@ fn within(x: usize, r: usize) -> usize
     (x >> below) % 65536
 }
 
+// Where this says so, the sync word stands at none of the 49 places of the 64 chips x: its eight pairs of chips,
+// 01 01 01 00 00 11 11 01, are looked for at all places at once, whatever the chips are.
+fn clear(x: usize) -> bool
+    ensures { λ r. ⌜ (r ≡ true → (j : ℕ) → j ≤ 48 → x / 2 ^ (48 - j) % 65536 ≡ syncWord → ⊥) ⌝ }
+{
+    let turned = x ^ 0xFFFF_FFFF_FFFF_FFFF;
+    let next = x << 1;
+    let zero_one = turned & next;
+    let zero_zero = turned & (next ^ 0xFFFF_FFFF_FFFF_FFFF);
+    let one_one = x & next;
+    let marks = zero_one
+        & (zero_one << 2)
+        & (zero_one << 4)
+        & (zero_zero << 6)
+        & (zero_zero << 8)
+        & (one_one << 10)
+        & (one_one << 12)
+        & (zero_one << 14);
+    marks >> 15 == 0
+}
+
 // How many of the n places from r on are tried before the word stands in the 64 chips x.
 fn first_in(x: usize, r: usize, n: usize) -> usize
     requires { ⌜ r + n ≤ 49 ⌝ }
     ensures { λ p. ⌜ p ≡ passed (λ j. eqb (x / 2 ^ (48 - j) % 65536) syncWord) r n ⌝ }
 {
+    if clear(x) {
+        return n;
+    }
     let mut j: usize = 0;
     while j < n {
         if within(x, r + j) == 0x543D {

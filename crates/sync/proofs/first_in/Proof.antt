@@ -4,9 +4,10 @@ use mathlib.Core.Path.{_≡_, sym, ap, _∙_}
 use Prim.Native.Nat.{ℕ, _+_, _-_, _/_, _%_, _^_, _≤_}
 use native.Mathlib.Omega.{arith}
 use borrow.Author.Tests.{eq-eqb, ne-eqb}
+use borrow.Author.Needs.{needs}
 use lib.Dec.{eqb}
 use Rattle.sync.specs.SyncSearch.{passed, syncWord}
-use Rattle.sync.proofs.PassedLaws.{passed-more, passed-hit, passed-le}
+use Rattle.sync.proofs.PassedLaws.{passed-more, passed-hit, passed-le, passed-none}
 use Rattle.sync.proofs.first_in.Statement.{statement}
 use Rattle.sync.proofs.first_in.Tie as tie
 
@@ -20,6 +21,17 @@ Inv-loop x r n j₀ j = (j ≤ n) × (j ≤ passed (wordIn x) r j)
 abbrev μ-loop : tie.MeasureT-loop
 μ-loop x r n j₀ j = n - j
 
+clear-requires : tie.Need-clear-requires Inv-loop μ-loop
+clear-requires c κs = search needs
+
+returns : tie.Need-returns Inv-loop μ-loop
+returns c =
+    let x = c .before .before .args .x in
+    let r = c .before .before .args .r in
+    sym
+    (passed-none (wordIn x) r (c .before .before .args .n)
+    (λ j l. ne-eqb (x / 2 ^ (48 - (r + j)) % 65536) syncWord (c .before .clear .ensures (c .if1 .taken) (r + j) (omega arith))))
+
 loop-holds : tie.Need-loop-holds Inv-loop μ-loop
 loop-holds c = omega arith
 
@@ -29,12 +41,12 @@ add-within c = omega arith
 within-requires : tie.Need-within-requires Inv-loop μ-loop
 within-requires c κs = omega arith
 
-returns : tie.Need-returns Inv-loop μ-loop
-returns c =
-    let x = c .before .before .before .before .args .x in
-    let r = c .before .before .before .before .args .r in
+returns-2 : tie.Need-returns-2 Inv-loop μ-loop
+returns-2 c =
+    let x = c .before .before .before .before .before .before .args .x in
+    let r = c .before .before .before .before .before .before .args .r in
     let j = c .before .before .before .loop .j in
-    sym (passed-hit (wordIn x) r j (c .before .before .before .before .args .n) (c .before .before .before .loop .inv .1) (eq-eqb (x / 2 ^ (48 - (r + j)) % 65536) syncWord (sym (c .before .within .ensures) ∙ c .if1 .taken)) (omega arith))
+    sym (passed-hit (wordIn x) r j (c .before .before .before .before .before .before .args .n) (c .before .before .before .loop .inv .1) (eq-eqb (x / 2 ^ (48 - (r + j)) % 65536) syncWord (sym (c .before .within .ensures) ∙ c .if2 .taken)) (omega arith))
 
 add-j : tie.Need-add-j Inv-loop μ-loop
 add-j c = omega arith
@@ -44,16 +56,16 @@ loop-less c = omega arith
 
 loop-again : tie.Need-loop-again Inv-loop μ-loop
 loop-again c =
+    let x = c .before .before .before .before .before .before .args .x in
+    let r = c .before .before .before .before .before .before .args .r in
+    let j = c .before .before .before .loop .j in
+    (omega arith, passed-more (wordIn x) r j (c .before .before .before .loop .inv .1) (ne-eqb (x / 2 ^ (48 - (r + j)) % 65536) syncWord (λ e. c .if2 .left (c .before .within .ensures ∙ e))))
+
+returns-3 : tie.Need-returns-3 Inv-loop μ-loop
+returns-3 c =
     let x = c .before .before .before .before .args .x in
     let r = c .before .before .before .before .args .r in
-    let j = c .before .before .before .loop .j in
-    (omega arith, passed-more (wordIn x) r j (c .before .before .before .loop .inv .1) (ne-eqb (x / 2 ^ (48 - (r + j)) % 65536) syncWord (λ e. c .if1 .left (c .before .within .ensures ∙ e))))
-
-returns-2 : tie.Need-returns-2 Inv-loop μ-loop
-returns-2 c =
-    let x = c .before .before .args .x in
-    let r = c .before .before .args .r in
-    let n = c .before .before .args .n in
+    let n = c .before .before .before .before .args .n in
     let same : c .before .loop .j ≡ n = omega arith in
     let all : c .before .loop .j ≤ passed (wordIn x) r (c .before .loop .j) = c .before .loop .inv .1 in
     omega (arith, passed-le (wordIn x) r n, ap (passed (wordIn x) r) same)
@@ -64,11 +76,13 @@ first-in-spec =
     (tie.spec
     Inv-loop
     μ-loop
+    clear-requires
+    returns
     loop-holds
     add-within
     within-requires
-    returns
+    returns-2
     add-j
     loop-less
     loop-again
-    returns-2)
+    returns-3)
