@@ -89,3 +89,12 @@ unfolding sizeOf cut
 sizeOf-behind first later zero m l = rw (sizeOf-first first later 0 m l) (omega arith)
 sizeOf-behind first later (suc n) m l =
     rw (sizeOf-first first later (suc n) m l, sizeOf-turn (first - 1) later (suc n) (min (first - 1) (suc n)) refl (omega arith) l (omega arith)) (omega arith)
+
+-- the first byte of a frame is the length byte, and the first byte of its payload is that of the frame
+pub framed-head : (first later n : ℕ) → 1 < first → 0 < later → (b : ℕ) (c : List ℕ) → framed (spans first later (n + 1)) (b ∷ c) ≡ b ∷ drop 1 (framed (spans first later (n + 1)) (b ∷ c))
+unfolding framed sealed
+framed-head first later n m l b c = rw (spans-first first later n m l)
+
+pub payload-head : (first later n : ℕ) → 1 < first → 0 < later → (b : ℕ) (s : List ℕ) → payload (spans first later (n + 1)) (b ∷ s) ≡ b ∷ drop 1 (payload (spans first later (n + 1)) (b ∷ s))
+unfolding payload
+payload-head first later n m l b s = rw (spans-first first later n m l)

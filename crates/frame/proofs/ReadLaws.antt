@@ -1,0 +1,79 @@
+-- Reading, case by case, and "accepted exactly when" for the call itself: answer and lent memory.
+--     read-accepts      where the buffer begins with the frame of c and there is room, c is handed over
+--     read-accepted     whatever is handed over is the content of the one frame that the buffer begins with
+use mathlib.Core.Bool.{Bool, true, false, cond}
+use mathlib.Core.List.{List, _++_}
+use mathlib.Core.Path.{_≡_, refl, ap, sym, _∙_}
+use Prim.Native.Nat.{ℕ, _≤_, _<_}
+use native.Mathlib.Omega.{arith}
+use borrow.Author.Tests.{lt-ltb, le-ltb, ltb-false}
+use lib.Dec.{ltb}
+use lib.ListN.{length, drop}
+use Rattle.ground.specs.Outcome.{Outcome}
+use Rattle.frame.specs.declared.Format.{Format}
+use Rattle.frame.specs.declared.Judged.{Judged}
+use Rattle.frame.specs.declared.Reading.{Reading}
+use Rattle.frame.specs.Frames.{contentIn, FrameAt}
+use Rattle.frame.specs.Judging.{judgeOf}
+use Rattle.frame.specs.Reads.{takenOut, readingOf}
+use Rattle.frame.proofs.AcceptLaws.{accepts, accepted, content-there}
+
+module _ (f : Format) (s d : List ℕ) where
+  pub reading-by : (j : Judged) → j ≡ judgeOf f s → takenOut f s d j ≡ readingOf f s d
+  unfolding readingOf
+  reading-by j e = ap (takenOut f s d) e
+
+  module _ (z n : ℕ) (e : Judged.Accepted z n ≡ judgeOf f s) where
+    pub reading-no-room : length d < n → _≡_ {A = Outcome Reading} (record { answer = Reading.NoRoom; memory = d }) (readingOf f s d)
+    unfolding takenOut
+    reading-no-room h = rw (lt-ltb (length d) n h) at (reading-by (Judged.Accepted z n) e)
+
+    pub reading-accepted : n ≤ length d → _≡_ {A = Outcome Reading} (record { answer = Reading.Accepted z n; memory = contentIn f n s ++ drop n d }) (readingOf f s d)
+    unfolding takenOut
+    reading-accepted h = rw (le-ltb (length d) n h) at (reading-by (Judged.Accepted z n) e)
+
+pub read-accepts : (f : Format) (s d : List ℕ) (z : ℕ) (c : List ℕ) → FrameAt f s z c → length c ≤ length d → readingOf f s d ≡ record { answer = Reading.Accepted z (length c); memory = c ++ drop (length c) d }
+read-accepts f s d z c at room =
+    sym (reading-accepted f s d z (length c) (sym (accepts f s z c at)) room)
+    ∙ ap (λ (m : List ℕ). record { answer = Reading.Accepted z (length c); memory = m ++ drop (length c) d }) (content-there f s z c at)
+
+-- what an accepted reading hands over
+pub record Handed (f : Format) (s d : List ℕ) (z n : ℕ) (c : List ℕ) : Type 0 where
+  pub sized : length c ≡ n
+  pub frame : FrameAt f s z c
+  pub room : n ≤ length d
+  pub memory : readingOf f s d .memory ≡ c ++ drop n d
+
+by-room : (f : Format) (s d : List ℕ) (z n y m : ℕ) (t : Bool) → cond {A = Outcome Reading} t (record { answer = Reading.NoRoom; memory = d }) (record { answer = Reading.Accepted y m; memory = contentIn f m s ++ drop m d }) .answer ≡ Reading.Accepted z n → (t ≡ false) × ((y ≡ z) × (m ≡ n))
+by-room f s d z n y m true h = (cc, (cc, cc))
+by-room f s d z n y m false h = (refl, (cc, cc))
+
+handed : (f : Format) (s d : List ℕ) (z n : ℕ) (j : Judged) → judgeOf f s ≡ j → takenOut f s d j .answer ≡ Reading.Accepted z n → Handed f s d z n (contentIn f n s)
+unfolding takenOut
+handed f s d z n (Judged.Accepted y m) e h =
+    let p = by-room f s d z n y m (ltb (length d) m) h in
+    let q : judgeOf f s ≡ Judged.Accepted z n = rw (p .1 .0, p .1 .1) at e in
+    let room : n ≤ length d = omega (arith, ltb-false (length d) m (p .0), p .1 .1) in
+    let both = accepted f s z n q in
+    record {
+      sized = both .0;
+      frame = both .1;
+      room = room;
+      memory = sym (ap (λ (o : Outcome Reading). o .memory) (reading-accepted f s d z n (sym q) room));
+    }
+handed f s d z n Judged.Short e h = absurd (no h)
+  where
+    no : Reading.Short ≡ Reading.Accepted z n → ⊥
+    no h = let one : _≡_ {A = ℕ} 0 1 = cc in omega arith
+handed f s d z n Judged.BadLength e h = absurd (no h)
+  where
+    no : Reading.BadLength ≡ Reading.Accepted z n → ⊥
+    no h = let one : _≡_ {A = ℕ} 0 1 = cc in omega arith
+handed f s d z n (Judged.WrongCheck b) e h = absurd (no h)
+  where
+    no : Reading.WrongCheck b ≡ Reading.Accepted z n → ⊥
+    no h = let one : _≡_ {A = ℕ} 0 1 = cc in omega arith
+
+pub read-accepted : (f : Format) (s d : List ℕ) (z n : ℕ) → readingOf f s d .answer ≡ Reading.Accepted z n → Handed f s d z n (contentIn f n s)
+unfolding readingOf
+read-accepted f s d z n h = handed f s d z n (judgeOf f s) refl h
