@@ -1,8 +1,11 @@
 -- Chips written into bytes and read back (specs/Packing).
 --     gather-same        words of equal chips are equal, wherever they stand
 --     gather-chip        chip k of a word of w chips
+--     gather-none        a word of chips 0 is 0
+--     gather-rest        the last b chips of a word of a + b
 --     gather-spread      the word of w chips at i * w of numbers written w chips each is number i
 --     spread-gather      the chips of words that were gathered one after the other are the chips gathered
+--     spread-shift       the chips from number a on
 --     getD-tabulate, length-tabulate, tabulate-same
 --     chipAt-packed      a chip of the packed bytes is the chip packed, or 0 behind the last
 --     wordAt-packed      so is a word of them
@@ -14,13 +17,13 @@ use mathlib.Core.Bool.{Bool, true, false, cond}
 use mathlib.Core.Logic.{_⊎_, inl, inr, ⊎-elim}
 use mathlib.Core.List.{[], _∷_}
 use Prim.Native.Nat.{ℕ, zero, suc, _+_, _*_, _-_, _/_, _%_, _^_, _<_, _≤_}
-use native.Mathlib.Nat.{add-assoc, div-add-mod', zero-div, mod-lt, div-eq-of-lt, not-suc-le-zero, le-of-suc-le-suc, eq-or-lt-of-le}
+use native.Mathlib.Nat.{add-assoc, div-add-mod', zero-div, mod-lt, mul-add-div-right, mul-add-mod-self-right, div-eq-of-lt, not-suc-le-zero, le-of-suc-le-suc, eq-or-lt-of-le}
 use native.Mathlib.Omega.{arith}
 use borrow.Author.Tests.{lt-ltb, le-ltb, ltb-true, ltb-false}
 use lib.Arith.{digits-div, digits-mod}
 use lib.Dec.{ltb}
 use lib.ListN.{length, getD, length-append, List·getD-append, List·getD-eq-default}
-use lib.Pow.{high, shr-shr}
+use lib.Pow.{high, low, shr-shr}
 use lib.Seq.{getD-at}
 use Rattle.chips.proofs.GatherLaws.{gather-add, gather-lt}
 use Rattle.chips.specs.Chips.{gather, chipAt, wordAt}
@@ -42,6 +45,17 @@ gather-chip f bit at w k h =
     rw (e, high (gather f at (suc k)) (w - 1 - k) (gather-lt f bit (at + suc k) (w - 1 - k)))
     (omega (arith, bit (at + k)))
 
+pub gather-none : (f : ℕ → ℕ) (at w : ℕ) → ((k : ℕ) → k < w → f (at + k) ≡ 0) → gather f at w ≡ 0
+unfolding gather
+gather-none f at zero none = refl
+gather-none f at (suc w) none =
+    let ih : gather f at w ≡ 0 = gather-none f at w (λ k h. none k (omega arith)) in
+    let last : f (at + w) ≡ 0 = none w (omega arith) in
+    rw (ih, last)
+
+pub gather-rest : (f : ℕ → ℕ) → ((k : ℕ) → f k < 2) → (at a b : ℕ) → gather f at (a + b) % 2 ^ b ≡ gather f (at + a) b
+gather-rest f bit at a b = rw (gather-add f at a b) (low (gather f at a) b (gather-lt f bit (at + a) b))
+
 -- the first j binary digits of x, of which there are w, make x / 2 ^ (w - j)
 digits : (x w j : ℕ) → x < 2 ^ w → j ≤ w → gather (λ k. x / 2 ^ (w - 1 - k) % 2) 0 j ≡ x / 2 ^ (w - j)
 unfolding gather
@@ -62,6 +76,9 @@ gather-spread v w i h =
     gather-same (spread w v) (λ k. v i / 2 ^ (w - 1 - k) % 2) (i * w) 0 w
     (λ k lt. let here : 0 + k ≡ k = omega arith in rw (digits-div i lt, digits-mod i lt, here))
     ∙ (digits (v i) w w h (omega arith) ∙ rw one (omega arith))
+
+pub spread-shift : (w : ℕ) (v : ℕ → ℕ) (a k : ℕ) → 0 < w → spread w v (a * w + k) ≡ spread w (λ i. v (a + i)) k
+spread-shift w v a k pos = rw (mul-add-div-right pos a k, mul-add-mod-self-right a w k)
 
 pub spread-gather : (f : ℕ → ℕ) → ((k : ℕ) → f k < 2) → (at w k : ℕ) → 0 < w → spread w (λ i. gather f (at + i * w) w) k ≡ f (at + k)
 spread-gather f bit at w k pos =

@@ -3,3 +3,4 @@ pub mod Settled
 pub mod XorLaws
 pub mod TableLaws
 pub mod StoresLaws
+pub mod FrontLaws

@@ -1,23 +1,25 @@
 -- What holds of every line code (specs/Codes), and what only a test of each code's words can show.
 --     numberFor-is     a number found is one of those searched, and the word is its word
---     Lawful κ         what a line code must be for the laws above: its bits divide a byte, a word has 1 to 8 chips,
+--     Lawful κ         what a line code must be for the laws above: its bits divide a byte, a word has no fewer chips and at most 8, a byte at most 16,
 --                      every number's word fits the chips, and is told from all others
 --     lawful           each of the three codes is so, by one computed test: the only place that goes by the three
 --     weight-three     every three-of-six code word has three ones; shown by the same test as that they are distinct
 --     wordOf-injective two numbers of a lawful code have different words
+--     words-le, unit-ge, chipsIn-ge, chipsIn-le    bounds on the words and chips of n bytes
 --     guess-tested     a way to guess that is right at every code word is a guess for every word
 --     valueOf-guessed  a word stands for what was guessed if it is that number's word, and else for nothing
 --     valueOf-is       a word stands for x exactly when it is the code word of x (with the field `back`)
 use mathlib.Core.Path.{_≡_, refl, ap, sym, _∙_}
 use mathlib.Core.Bool.{Bool, true, false, cond, _&&_}
 use Prim.Native.Nat.{ℕ, zero, suc, _+_, _*_, _-_, _/_, _%_, _^_, _<_, _≤_}
+use native.Mathlib.Nat.{mul-le-mul-left, mul-assoc, div-le-self}
 use native.Mathlib.Omega.{arith}
 use borrow.Author.Tests.{eqb-true}
 use lib.Dec.{T, eqb, ltb, eqb→eq, ltb→lt}
 use lib.Ieee.Fits.{and-l, and-r}
 use lib.ListN.{getD}
 use Rattle.ground.proofs.TableLaws.{allBelow, below-at}
-use Rattle.line.specs.Codes.{LineCode, codeOf, codeWords, numberFor, valueOf, Guess}
+use Rattle.line.specs.Codes.{LineCode, codeOf, codeWords, numberFor, valueOf, Guess, wordsIn, chipsIn}
 use Rattle.line.specs.declared.Code.{Code}
 use Rattle.line.specs.declared.Code.the-variants.{Nrz, ThreeOfSix, Manchester}
 use Rattle.line.specs.declared.Value.{Value}
@@ -43,8 +45,9 @@ numberFor-is f y (suc n) x h = by (eqb (f n) y) refl h (numberFor-is f y n x) wh
 pub record Lawful (κ : LineCode) : Type 0 where
   pub bits-pos : 0 < κ .bits
   pub whole : 8 / κ .bits * κ .bits ≡ 8
-  pub chips-pos : 0 < κ .chips
+  pub bits-le : κ .bits ≤ κ .chips
   pub chips-le : κ .chips ≤ 8
+  pub unit-le : 8 / κ .bits * κ .chips ≤ 16
   pub word-lt : (x : ℕ) → x < 2 ^ κ .bits → κ .wordOf x < 2 ^ κ .chips
   pub back : (x : ℕ) → x < 2 ^ κ .bits → valueOf κ (κ .wordOf x) ≡ Is x
 
@@ -95,7 +98,7 @@ tested-at : (code : Code) (x : ℕ) → x < 2 ^ codeOf code .bits
 tested-at code x h =
     right-is (codeOf code) (more code) x (below-at (right (codeOf code) (more code)) (2 ^ codeOf code .bits) (tested code) x h)
 
-shaped : (code : Code) → ((0 < codeOf code .bits) × (8 / codeOf code .bits * codeOf code .bits ≡ 8)) × ((0 < codeOf code .chips) × (codeOf code .chips ≤ 8))
+shaped : (code : Code) → ((0 < codeOf code .bits) × (8 / codeOf code .bits * codeOf code .bits ≡ 8)) × ((codeOf code .bits ≤ codeOf code .chips) × ((codeOf code .chips ≤ 8) × (8 / codeOf code .bits * codeOf code .chips ≤ 16)))
 shaped Nrz = omega arith
 shaped ThreeOfSix = omega arith
 shaped Manchester = omega arith
@@ -105,8 +108,9 @@ lawful code =
     record {
       bits-pos = shaped code .0 .0;
       whole = shaped code .0 .1;
-      chips-pos = shaped code .1 .0;
-      chips-le = shaped code .1 .1;
+      bits-le = shaped code .1 .0;
+      chips-le = shaped code .1 .1 .0;
+      unit-le = shaped code .1 .1 .1;
       word-lt = λ x h. tested-at code x h .0;
       back = λ x h. tested-at code x h .1 .0;
     }
@@ -116,6 +120,19 @@ unfolding more
 weight-three x h = eqb→eq (ones 6 (getD codeWords x 0)) 3 (tested-at ThreeOfSix x h .1 .1)
 
 module _ (κ : LineCode) (law : Lawful κ) where
+  -- a byte has at most eight words, and n bytes have at least 8 and at most 16 chips each
+  pub words-le : (n : ℕ) → wordsIn κ n ≤ n * 8
+  words-le n = mul-le-mul-left n (div-le-self 8 (κ .bits))
+
+  pub unit-ge : 8 ≤ 8 / κ .bits * κ .chips
+  unit-ge = rw (law .whole) at (mul-le-mul-left (8 / κ .bits) (law .bits-le))
+
+  pub chipsIn-ge : (n : ℕ) → n * 8 ≤ chipsIn κ n
+  chipsIn-ge n = rw mul-assoc (mul-le-mul-left n unit-ge)
+
+  pub chipsIn-le : (n : ℕ) → chipsIn κ n ≤ n * 16
+  chipsIn-le n = rw mul-assoc (mul-le-mul-left n (law .unit-le))
+
   pub wordOf-injective : (x z : ℕ) → x < 2 ^ κ .bits → z < 2 ^ κ .bits → κ .wordOf x ≡ κ .wordOf z → x ≡ z
   wordOf-injective x z hx hz e =
       let bx : valueOf κ (κ .wordOf x) ≡ Is x = law .back x hx in

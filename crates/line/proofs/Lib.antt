@@ -1,2 +1,11 @@
+pub mod AnswerLaws
 pub mod CodeLaws
+pub mod CodingLaws
+pub mod DecodingLaws
+pub mod DigitLaws
+pub mod EncodingLaws
 pub mod ExampleLaws
+pub mod FillingLaws
+pub mod GoodRunLaws
+pub mod PouringLaws
+pub mod ReadingLaws

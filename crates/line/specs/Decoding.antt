@@ -4,20 +4,24 @@
 --     numberIn v                 the number of a code word
 --     decodedChip κ s start k    bit k of what the words from chip `start` on stand for, one word after the other
 --     decoding κ s start n       the n bytes that the words from chip `start` on stand for
+--     byteRead κ s at            the one byte whose words begin at chip `at`, or the place of the first that is no code word
 --     decoded κ s start n d      the answer, and what the lent memory holds then, d before
 --     numberOf                   document 01's number of each answer
 -- A place after the last chip is no start (10); the chip count itself is one, at which nothing but 0 bytes can be decoded.
 use mathlib.Core.Bool.{Bool, true, false, cond}
 use mathlib.Core.List.{List, _++_}
-use Prim.Native.Nat.{ℕ, zero, suc, _+_, _*_}
+use Prim.Native.Nat.{ℕ, zero, suc, _+_, _*_, _/_}
 use lib.Dec.{ltb, eqb}
 use lib.ListN.{length, drop}
-use Rattle.chips.specs.Chips.{wordAt, chipCount, roomLimit}
+use Rattle.chips.specs.Chips.{gather, wordAt, chipCount, roomLimit}
 use Rattle.chips.specs.Packing.{spread, packed}
 use Rattle.ground.specs.Outcome.{Outcome}
 use Rattle.line.specs.Codes.{LineCode, valueOf, wordsIn, chipsIn}
 use Rattle.line.specs.declared.Value.{Value}
 use Rattle.line.specs.declared.Value.the-variants.{Is, NoWord}
+use Rattle.line.specs.declared.Byte.{Byte}
+use Rattle.line.specs.declared.Byte.the-variants.{Bad}
+use Rattle.line.specs.declared.Byte.the-variants as byte
 use Rattle.line.specs.declared.Decoded.{Decoded}
 use Rattle.line.specs.declared.Decoded.the-variants.{Accepted, Short, NoRoom, BadWord, OutOfRange}
 
@@ -41,6 +45,11 @@ decodedChip κ s start = spread (κ .bits) (λ i. numberIn (valueAt κ s start i
 
 unfoldable pub decoding : LineCode → List ℕ → ℕ → ℕ → List ℕ
 decoding κ s start n = packed (8 * n) (decodedChip κ s start)
+
+unfoldable pub byteRead : LineCode → List ℕ → ℕ → Byte
+byteRead κ s at =
+    cond (ltb (goodRun (valueAt κ s at) (8 / κ .bits)) (8 / κ .bits)) (Bad (goodRun (valueAt κ s at) (8 / κ .bits)))
+    (byte.Is (gather (decodedChip κ s at) 0 8))
 
 -- a refusal leaves the lent memory as it was
 abbrev pub refused : Decoded → List ℕ → Outcome Decoded

@@ -1,11 +1,18 @@
 // The three line codes (EN 13757-4:2019): NRZ (9.4.1), three-of-six (7.4.2) and Manchester (6.4.1, 6.4.2).
 ghost use mathlib.Core.Path.{_≡_};
+ghost use mathlib.Core.List.{_++_};
 ghost use Prim.Native.Nat.{_+_, _*_, _/_, _%_, _^_, _<_, _≤_};
-ghost use lib.ListN.{length};
-ghost use Rattle.chips.specs.Chips.{wordAt, chipCount};
-ghost use Rattle.line.specs.Codes.{codeOf, valueOf, Guess};
+ghost use lib.ListN.{length, take, drop};
+ghost use Rattle.ground.specs.Outcome.{Outcome};
+ghost use Rattle.chips.specs.Chips.{gather, wordAt, chipCount, roomLimit};
+ghost use Rattle.chips.specs.Packing.{upTo};
+ghost use Rattle.line.specs.Codes.{codeOf, valueOf, Guess, wordsIn, chipsIn};
 ghost use Rattle.line.specs.OneWord.{wordRead};
+ghost use Rattle.line.specs.Decoding.{valueAt, goodRun, byteRead, decoding, decoded};
+ghost use Rattle.line.specs.Encoding.{encodedChip, encoding, sizeFor, encoded};
 ghost use Rattle.line.specs.declared.Code.the-variants.{ThreeOfSix};
+ghost use Rattle.line.specs.declared.Decoded.{Decoded};
+ghost use Rattle.line.specs.declared.Encoded.{Encoded};
 
 pub enum Code {
     Nrz,
@@ -106,6 +113,17 @@ fn width(code: Code) -> usize
     }
 }
 
+// The words of a byte.
+fn per_byte(code: Code) -> usize
+    ensures { λ r. ⌜ r ≡ 8 / codeOf code .bits ⌝ }
+{
+    match code {
+        Code::Nrz => 1,
+        Code::ThreeOfSix => 2,
+        Code::Manchester => 8,
+    }
+}
+
 // The code word of x.
 fn word_of(code: Code, x: u8) -> u8
     requires { ⌜ x < 2 ^ codeOf code .bits ⌝ }
@@ -166,13 +184,28 @@ fn pair_at(s: &[u8], k: usize) -> u32
     }
 }
 
+// The last b binary digits of x.
+fn low(x: u32, b: usize) -> u32
+    requires { ⌜ b ≤ 16 ⌝ }
+    ensures { λ r. ⌜ r ≡ x % 2 ^ b ⌝ }
+{
+    x % (1u32 << (b as u32))
+}
+
 // b binary digits of x, behind them c digits.
 fn part(x: u32, b: usize, c: usize) -> u8
     requires { ⌜ (b ≤ 8) × (c ≤ 16) ⌝ }
     ensures { λ r. ⌜ r ≡ x / 2 ^ c % 2 ^ b ⌝ }
 {
-    let size = 1u32 << (b as u32);
-    ((x >> (c as u32)) % size) as u8
+    low(x >> (c as u32), b) as u8
+}
+
+// x, and behind it b binary digits of y.
+fn join(x: u32, b: usize, y: u32) -> u32
+    requires { ⌜ (b ≤ 16) × (x * 2 ^ b + y < 2 ^ 32) ⌝ }
+    ensures { λ r. ⌜ r ≡ x * 2 ^ b + y ⌝ }
+{
+    x * (1u32 << (b as u32)) + y
 }
 
 // The word of w chips at place `at`: two neighbouring bytes hold it.
@@ -202,4 +235,156 @@ pub fn word_at(code: Code, s: &[u8], at: usize) -> Word
         Value::Is(x) => Word::Accepted(x),
         Value::NoWord => Word::BadWord,
     }
+}
+
+// The byte whose words begin at chip `at`, or the place of the first of them that is no code word.
+fn byte_at(code: Code, s: &[u8], at: usize) -> Byte
+    requires { ⌜ (length (now s) ≤ roomLimit) × (at + 8 / codeOf code .bits * codeOf code .chips ≤ chipCount (now s)) ⌝ }
+    ensures { λ r. ⌜ r ≡ byteRead (codeOf code) (now (s .entry)) at ⌝ }
+{
+    let b = bits(code);
+    let w = width(code);
+    let m = per_byte(code);
+    let mut x: u32 = 0;
+    let mut k: usize = 0;
+    while k < m {
+        let Value::Is(v) = value_of(code, fetch(s, at + k * w, w)) else {
+            return Byte::Bad(k);
+        };
+        x = join(x, b, wide(v));
+        k += 1;
+    }
+    Byte::Is(x as u8)
+}
+
+// Decodes n bytes from chip `start` on into `room`, up to the first word that is no code word; the number of code
+// words before it.
+fn fill(code: Code, s: &[u8], start: usize, n: usize, room: &mut [u8]) -> usize
+    requires { ⌜ ((n ≤ roomLimit) × (n ≤ length (now room))) × ((length (now s) ≤ roomLimit) × (start + chipsIn (codeOf code) n ≤ chipCount (now s))) ⌝ }
+    ensures { λ r. ⌜ (r ≡ goodRun (valueAt (codeOf code) (now (s .entry)) start) (wordsIn (codeOf code) n)) × (r ≡ wordsIn (codeOf code) n → take n (now (room .exit)) ≡ decoding (codeOf code) (now (s .entry)) start n) ⌝ }
+{
+    let m = per_byte(code);
+    let unit = m * width(code);
+    let mut i: usize = 0;
+    while i < n {
+        match byte_at(code, s, start + i * unit) {
+            Byte::Is(x) => room[i] = x,
+            Byte::Bad(k) => return i * m + k,
+        }
+        i += 1;
+    }
+    n * m
+}
+
+// The first n bytes of `room` into `out`.
+fn copy(room: &[u8], n: usize, out: &mut [u8])
+    requires { ⌜ (n ≤ length (now room)) × (n ≤ length (now out)) ⌝ }
+    ensures { λ _. ⌜ now (out .exit) ≡ take n (now (room .entry)) ++ drop n (now (out .entry)) ⌝ }
+{
+    let mut i: usize = 0;
+    while i < n {
+        out[i] = room[i];
+        i += 1;
+    }
+}
+
+// Decodes n bytes from chip `start` of `s` on into the first n bytes of `out`.
+pub fn decode(code: Code, s: &[u8], start: usize, n: usize, out: &mut [u8]) -> Decoded
+    ensures { λ r. ⌜ _≡_ {A = Outcome Decoded} (record { answer = r; memory = now (out .exit) }) (decoded (codeOf code) (now (s .entry)) start n (now (out .entry))) ⌝ }
+{
+    if ROOM < s.len() {
+        return Decoded::OutOfRange;
+    }
+    let count = 8 * s.len();
+    if count < start {
+        return Decoded::OutOfRange;
+    }
+    if ROOM < n {
+        return Decoded::Short;
+    }
+    let words = n * per_byte(code);
+    if count - start < words * width(code) {
+        return Decoded::Short;
+    }
+    let mut room = [0u8; 1024];
+    let good = fill(code, s, start, n, &mut room);
+    if good < words {
+        return Decoded::BadWord(good);
+    }
+    if out.len() < n {
+        return Decoded::NoRoom;
+    }
+    copy(&room, n, out);
+    Decoded::Accepted
+}
+
+// How many bytes the code words of n bytes take more than n.
+fn more(code: Code, n: usize) -> usize
+    ensures { λ r. ⌜ n + r ≡ sizeFor (codeOf code) n ⌝ }
+{
+    match code {
+        Code::Nrz => 0,
+        Code::ThreeOfSix => n / 2 + n % 2,
+        Code::Manchester => n,
+    }
+}
+
+// The chips of the byte at i as one number; behind the last byte every chip is 0.
+fn coded(code: Code, s: &[u8], i: usize) -> u32
+    ensures { λ r. ⌜ r ≡ gather (upTo (chipsIn (codeOf code) (length (now (s .entry)))) (encodedChip (codeOf code) (now (s .entry)))) (i * (8 / codeOf code .bits * codeOf code .chips)) (8 / codeOf code .bits * codeOf code .chips) ⌝ }
+{
+    if s.len() <= i {
+        return 0;
+    }
+    let b = bits(code);
+    let w = width(code);
+    let m = per_byte(code);
+    let x = wide(s[i]);
+    let mut chips: u32 = 0;
+    let mut k: usize = 0;
+    while k < m {
+        let word = word_of(code, part(x, b, 8 - b - k * b));
+        chips = join(chips, w, wide(word));
+        k += 1;
+    }
+    chips
+}
+
+// Writes the code words of `s` into the first `size` bytes of `out`, eight chips at a time.
+fn pour(code: Code, s: &[u8], size: usize, out: &mut [u8])
+    requires { ⌜ (size ≡ sizeFor (codeOf code) (length (now s))) × (size ≤ length (now out)) ⌝ }
+    ensures { λ _. ⌜ now (out .exit) ≡ encoding (codeOf code) (now (s .entry)) ++ drop size (now (out .entry)) ⌝ }
+{
+    let unit = per_byte(code) * width(code);
+    let mut held: u32 = 0;
+    let mut count: usize = 0;
+    let mut i: usize = 0;
+    let mut j: usize = 0;
+    while j < size {
+        if count < 8 {
+            held = join(held, unit, coded(code, s, i));
+            count += unit;
+            i += 1;
+        }
+        count -= 8;
+        out[j] = part(held, 8, count);
+        held = low(held, count);
+        j += 1;
+    }
+}
+
+// Writes the code words of `s` into `out`, from its first byte on.
+pub fn encode(code: Code, s: &[u8], out: &mut [u8]) -> Encoded
+    ensures { λ r. ⌜ _≡_ {A = Outcome Encoded} (record { answer = r; memory = now (out .exit) }) (encoded (codeOf code) (now (s .entry)) (now (out .entry))) ⌝ }
+{
+    let n = s.len();
+    if out.len() < n {
+        return Encoded::NoRoom;
+    }
+    let extra = more(code, n);
+    if out.len() - n < extra {
+        return Encoded::NoRoom;
+    }
+    pour(code, s, n + extra, out);
+    Encoded::Accepted(n + extra)
 }

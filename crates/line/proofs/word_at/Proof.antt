@@ -41,7 +41,7 @@ returns-3 c =
 fetch-requires : tie.Need-fetch-requires
 fetch-requires c κs =
     let law = lawful (c .before .before .before .before .before .args .code) in
-    omega (arith, law .chips-pos, law .chips-le)
+    omega (arith, law .bits-pos, law .bits-le, law .chips-le)
 
 value-of-requires : tie.Need-value-of-requires
 value-of-requires c κs = search needs
