@@ -1,0 +1,475 @@
+//! One case of the comparison: an operation with its arguments. A case is one
+//! line of text, `operation name=hex name=hex ...`, and can be read back from
+//! it; so a person can run a difference again.
+
+use std::fmt;
+
+use crate::answer::Answer;
+use crate::chips::Code;
+use crate::filter::Entries;
+use crate::frames::Format;
+use crate::headers::{Header, HeaderKind};
+use crate::implementation::Implementation;
+use crate::sync::Kind;
+
+/// The operations that are compared.
+#[derive(Clone, Copy, Debug, PartialEq, Eq, PartialOrd, Ord)]
+pub enum Operation {
+    Decode,
+    Encode,
+    Word,
+    Search,
+    Check,
+    CheckUpdate,
+    FrameRead,
+    FrameWrite,
+    FrameChange,
+    FrameSize,
+    Receive,
+    ReceiveManchester,
+    Send,
+    HeaderRead,
+    HeaderWrite,
+    Access,
+    Letters,
+    Filter,
+    ChannelRow,
+    ChannelCentre,
+    BandListing,
+}
+
+/// What an argument may be.
+#[derive(Clone, Copy, Debug, PartialEq, Eq)]
+pub enum Shape {
+    /// A number up to this one.
+    UpTo(u64),
+    /// Bytes, as many as one likes.
+    Bytes,
+    /// Exactly this many bytes.
+    Exactly(usize),
+}
+
+const CODE: Shape = Shape::UpTo(2);
+const FORMAT: Shape = Shape::UpTo(1);
+const KIND: Shape = Shape::UpTo(3);
+const BYTE: Shape = Shape::UpTo(u8::MAX as u64);
+const U16: Shape = Shape::UpTo(u16::MAX as u64);
+const U32: Shape = Shape::UpTo(u32::MAX as u64);
+const SIZE: Shape = Shape::UpTo(usize::MAX as u64);
+const BYTES: Shape = Shape::Bytes;
+
+impl Operation {
+    pub const ALL: [Operation; 21] = [
+        Operation::Decode,
+        Operation::Encode,
+        Operation::Word,
+        Operation::Search,
+        Operation::Check,
+        Operation::CheckUpdate,
+        Operation::FrameRead,
+        Operation::FrameWrite,
+        Operation::FrameChange,
+        Operation::FrameSize,
+        Operation::Receive,
+        Operation::ReceiveManchester,
+        Operation::Send,
+        Operation::HeaderRead,
+        Operation::HeaderWrite,
+        Operation::Access,
+        Operation::Letters,
+        Operation::Filter,
+        Operation::ChannelRow,
+        Operation::ChannelCentre,
+        Operation::BandListing,
+    ];
+
+    pub fn name(self) -> &'static str {
+        match self {
+            Operation::Decode => "decode",
+            Operation::Encode => "encode",
+            Operation::Word => "word",
+            Operation::Search => "search",
+            Operation::Check => "check",
+            Operation::CheckUpdate => "check_update",
+            Operation::FrameRead => "frame_read",
+            Operation::FrameWrite => "frame_write",
+            Operation::FrameChange => "frame_change",
+            Operation::FrameSize => "frame_size",
+            Operation::Receive => "receive",
+            Operation::ReceiveManchester => "receive_manchester",
+            Operation::Send => "send",
+            Operation::HeaderRead => "header_read",
+            Operation::HeaderWrite => "header_write",
+            Operation::Access => "access",
+            Operation::Letters => "letters",
+            Operation::Filter => "filter",
+            Operation::ChannelRow => "channel_row",
+            Operation::ChannelCentre => "channel_centre",
+            Operation::BandListing => "band_listing",
+        }
+    }
+
+    /// The arguments, in the order of the line of text. Lent memory is an
+    /// argument too: what it held before decides what must stay.
+    pub fn arguments(self) -> &'static [(&'static str, Shape)] {
+        match self {
+            Operation::Decode => &[
+                ("code", CODE),
+                ("chips", BYTES),
+                ("start", SIZE),
+                ("n", SIZE),
+                ("out", BYTES),
+            ],
+            Operation::Encode => &[("code", CODE), ("bytes", BYTES), ("out", BYTES)],
+            Operation::Word => &[("code", CODE), ("chips", BYTES), ("place", SIZE)],
+            Operation::Search => &[("chips", BYTES), ("start", SIZE), ("allowance", SIZE)],
+            Operation::Check => &[("bytes", BYTES)],
+            Operation::CheckUpdate => &[
+                ("old_check", U16),
+                ("old_byte", BYTE),
+                ("new_byte", BYTE),
+                ("distance", SIZE),
+            ],
+            Operation::FrameRead => &[("format", FORMAT), ("bytes", BYTES), ("out", BYTES)],
+            Operation::FrameWrite => &[("format", FORMAT), ("content", BYTES), ("out", BYTES)],
+            Operation::FrameChange => &[
+                ("format", FORMAT),
+                ("frame", BYTES),
+                ("place", SIZE),
+                ("byte", BYTE),
+            ],
+            Operation::FrameSize => &[("format", FORMAT), ("length", BYTE)],
+            Operation::Receive => &[
+                ("chips", BYTES),
+                ("start", SIZE),
+                ("allowance", SIZE),
+                ("out", BYTES),
+            ],
+            Operation::ReceiveManchester => &[("chips", BYTES), ("start", SIZE), ("out", BYTES)],
+            Operation::Send => &[("kind", KIND), ("content", BYTES), ("out", BYTES)],
+            Operation::HeaderRead => &[("body", BYTES)],
+            Operation::HeaderWrite => &[
+                ("kind", KIND),
+                ("cc", BYTE),
+                ("acc", BYTE),
+                ("m2", U16),
+                ("a2", Shape::Exactly(6)),
+                ("sn", U32),
+                ("payload_crc", Shape::Exactly(2)),
+                ("out", BYTES),
+            ],
+            Operation::Access => &[("cc", BYTE)],
+            Operation::Letters => &[("m", U16)],
+            Operation::Filter => &[
+                ("entries", Shape::Exactly(128)),
+                ("count", SIZE),
+                ("content", BYTES),
+            ],
+            Operation::ChannelRow => &[("index", SIZE)],
+            Operation::ChannelCentre => &[("index", SIZE), ("channel", SIZE)],
+            Operation::BandListing => &[("input", BYTES)],
+        }
+    }
+}
+
+/// An argument of a case.
+#[derive(Clone, Debug, PartialEq, Eq)]
+pub enum Argument {
+    Number(u64),
+    Bytes(Vec<u8>),
+}
+
+impl From<usize> for Argument {
+    fn from(number: usize) -> Argument {
+        Argument::Number(number as u64)
+    }
+}
+
+impl From<Vec<u8>> for Argument {
+    fn from(bytes: Vec<u8>) -> Argument {
+        Argument::Bytes(bytes)
+    }
+}
+
+impl Argument {
+    fn fits(&self, shape: Shape) -> bool {
+        match (self, shape) {
+            (Argument::Number(number), Shape::UpTo(largest)) => *number <= largest,
+            (Argument::Bytes(_), Shape::Bytes) => true,
+            (Argument::Bytes(bytes), Shape::Exactly(length)) => bytes.len() == length,
+            _ => false,
+        }
+    }
+
+    fn from_text(text: &str, shape: Shape) -> Option<Argument> {
+        let argument = match shape {
+            Shape::UpTo(_) => Argument::Number(number_from_hex(text)?),
+            Shape::Bytes | Shape::Exactly(_) => Argument::Bytes(bytes_from_hex(text)?),
+        };
+        Some(argument).filter(|argument| argument.fits(shape))
+    }
+}
+
+impl fmt::Display for Argument {
+    fn fmt(&self, f: &mut fmt::Formatter) -> fmt::Result {
+        match self {
+            Argument::Number(number) => write!(f, "{number:x}"),
+            Argument::Bytes(bytes) => write!(f, "{}", hex(bytes)),
+        }
+    }
+}
+
+/// Bytes as hexadecimal digits.
+pub fn hex(bytes: &[u8]) -> String {
+    bytes.iter().map(|byte| format!("{byte:02x}")).collect()
+}
+
+fn number_from_hex(text: &str) -> Option<u64> {
+    // The library's reader would take a sign, which is no digit.
+    let digits = text.chars().all(|digit| digit.is_ascii_hexdigit());
+    u64::from_str_radix(text, 16).ok().filter(|_| digits)
+}
+
+fn bytes_from_hex(text: &str) -> Option<Vec<u8>> {
+    if !text.len().is_multiple_of(2) || !text.is_ascii() {
+        return None;
+    }
+    let mut bytes = Vec::new();
+    for place in (0..text.len()).step_by(2) {
+        bytes.push(number_from_hex(&text[place..place + 2])? as u8);
+    }
+    Some(bytes)
+}
+
+/// An operation with its arguments, in the order that the operation names.
+#[derive(Clone, Debug, PartialEq, Eq)]
+pub struct Case {
+    pub operation: Operation,
+    arguments: Vec<Argument>,
+}
+
+/// What a call left behind.
+#[derive(Clone, Debug, PartialEq, Eq)]
+pub struct Outcome {
+    pub answer: Answer,
+    /// Every lent byte after the call. For `word` the reader's place, high byte
+    /// first; for `band_listing` the text.
+    pub lent: Vec<u8>,
+}
+
+impl Case {
+    /// A case. The arguments must be those that the operation names: anything
+    /// else is a mistake in a generator, and stops the program.
+    pub fn new(operation: Operation, arguments: Vec<Argument>) -> Case {
+        let shapes = operation.arguments();
+        assert_eq!(
+            arguments.len(),
+            shapes.len(),
+            "{operation:?}: number of arguments"
+        );
+        for (argument, (name, shape)) in arguments.iter().zip(shapes) {
+            assert!(argument.fits(*shape), "{operation:?}: {name}");
+        }
+        Case {
+            operation,
+            arguments,
+        }
+    }
+
+    /// A case from its line of text.
+    pub fn from_text(line: &str) -> Result<Case, String> {
+        let mut parts = line.split_whitespace();
+        let name = parts.next().ok_or("empty line")?;
+        let operation = Operation::ALL
+            .into_iter()
+            .find(|operation| operation.name() == name)
+            .ok_or(format!("no operation {name}"))?;
+        let mut arguments = Vec::new();
+        for (name, shape) in operation.arguments() {
+            let text = parts
+                .next()
+                .and_then(|part| part.strip_prefix(name))
+                .and_then(|part| part.strip_prefix('='))
+                .ok_or(format!("{name}= expected"))?;
+            let argument = Argument::from_text(text, *shape).ok_or(format!("{name}: bad value"))?;
+            arguments.push(argument);
+        }
+        match parts.next() {
+            Some(part) => Err(format!("{part}: not expected")),
+            None => Ok(Case {
+                operation,
+                arguments,
+            }),
+        }
+    }
+
+    fn argument(&self, name: &str) -> &Argument {
+        let place = self
+            .operation
+            .arguments()
+            .iter()
+            .position(|(known, _)| *known == name)
+            .unwrap_or_else(|| panic!("{:?} has no {name}", self.operation));
+        &self.arguments[place]
+    }
+
+    /// A number among the arguments.
+    pub fn number(&self, name: &str) -> u64 {
+        match self.argument(name) {
+            Argument::Number(number) => *number,
+            Argument::Bytes(_) => panic!("{name} is no number"),
+        }
+    }
+
+    /// Bytes among the arguments.
+    pub fn bytes(&self, name: &str) -> &[u8] {
+        match self.argument(name) {
+            Argument::Bytes(bytes) => bytes,
+            Argument::Number(_) => panic!("{name} is a number"),
+        }
+    }
+
+    // The shapes keep every number within its type, so nothing is cut off here.
+
+    fn size(&self, name: &str) -> usize {
+        self.number(name) as usize
+    }
+
+    fn byte(&self, name: &str) -> u8 {
+        self.number(name) as u8
+    }
+
+    fn code(&self) -> Code {
+        Code::ALL[self.size("code")]
+    }
+
+    fn format(&self) -> Format {
+        Format::ALL[self.size("format")]
+    }
+
+    fn kind(&self) -> Kind {
+        Kind::ALL[self.size("kind")]
+    }
+
+    fn header(&self) -> Header {
+        let mut header = Header {
+            kind: HeaderKind::ALL[self.size("kind")],
+            cc: self.byte("cc"),
+            acc: self.byte("acc"),
+            m2: self.number("m2") as u16,
+            a2: [0; 6],
+            sn: self.number("sn") as u32,
+            payload_crc: [0; 2],
+        };
+        header.a2.copy_from_slice(self.bytes("a2"));
+        header
+            .payload_crc
+            .copy_from_slice(self.bytes("payload_crc"));
+        header
+    }
+
+    fn entries(&self) -> Entries {
+        let mut entries = [[0; 8]; 16];
+        for (entry, bytes) in entries.iter_mut().zip(self.bytes("entries").chunks(8)) {
+            entry.copy_from_slice(bytes);
+        }
+        entries
+    }
+
+    /// The memory that the case lends, as it is before the call.
+    fn lent(&self) -> Vec<u8> {
+        for (name, _) in self.operation.arguments() {
+            if *name == "out" || *name == "frame" {
+                return self.bytes(name).to_vec();
+            }
+        }
+        Vec::new()
+    }
+
+    /// Runs the case with an implementation.
+    pub fn run(&self, with: &dyn Implementation) -> Outcome {
+        let mut lent = self.lent();
+        let out = &mut lent[..];
+        let answer = match self.operation {
+            Operation::Decode => with.decode(
+                self.code(),
+                self.bytes("chips"),
+                self.size("start"),
+                self.size("n"),
+                out,
+            ),
+            Operation::Encode => with.encode(self.code(), self.bytes("bytes"), out),
+            Operation::Word => {
+                let mut place = self.size("place");
+                let answer = with.word(self.code(), self.bytes("chips"), &mut place);
+                lent = (place as u64).to_be_bytes().to_vec();
+                answer
+            }
+            Operation::Search => with.search(
+                self.bytes("chips"),
+                self.size("start"),
+                self.size("allowance"),
+            ),
+            Operation::Check => with.check(self.bytes("bytes")),
+            Operation::CheckUpdate => with.check_update(
+                self.number("old_check") as u16,
+                self.byte("old_byte"),
+                self.byte("new_byte"),
+                self.size("distance"),
+            ),
+            Operation::FrameRead => with.frame_read(self.format(), self.bytes("bytes"), out),
+            Operation::FrameWrite => with.frame_write(self.format(), self.bytes("content"), out),
+            Operation::FrameChange => {
+                with.frame_change(self.format(), out, self.size("place"), self.byte("byte"))
+            }
+            Operation::FrameSize => with.frame_size(self.format(), self.byte("length")),
+            Operation::Receive => with.receive(
+                self.bytes("chips"),
+                self.size("start"),
+                self.size("allowance"),
+                out,
+            ),
+            Operation::ReceiveManchester => {
+                with.receive_manchester(self.bytes("chips"), self.size("start"), out)
+            }
+            Operation::Send => with.send(self.kind(), self.bytes("content"), out),
+            Operation::HeaderRead => with.header_read(self.bytes("body")),
+            Operation::HeaderWrite => with.header_write(&self.header(), out),
+            Operation::Access => with.access(self.byte("cc")),
+            Operation::Letters => with.letters(self.number("m") as u16),
+            Operation::Filter => {
+                with.filter(&self.entries(), self.size("count"), self.bytes("content"))
+            }
+            Operation::ChannelRow => with.channel_row(self.size("index")),
+            Operation::ChannelCentre => {
+                with.channel_centre(self.size("index"), self.size("channel"))
+            }
+            Operation::BandListing => {
+                lent = with.band_listing(self.bytes("input"));
+                Answer::accepted(&[])
+            }
+        };
+        Outcome { answer, lent }
+    }
+}
+
+impl fmt::Display for Case {
+    fn fmt(&self, f: &mut fmt::Formatter) -> fmt::Result {
+        write!(f, "{}", self.operation.name())?;
+        for (argument, (name, _)) in self.arguments.iter().zip(self.operation.arguments()) {
+            write!(f, " {name}={argument}")?;
+        }
+        Ok(())
+    }
+}
+
+impl fmt::Display for Outcome {
+    fn fmt(&self, f: &mut fmt::Formatter) -> fmt::Result {
+        write!(
+            f,
+            "number={} values={:?}",
+            self.answer.number, self.answer.values
+        )?;
+        write!(f, " lent={}", hex(&self.lent))
+    }
+}

@@ -1,0 +1,131 @@
+//! Makes cases for the comparison, seeded and so repeatable. A case is mostly
+//! something valid, then perhaps damaged, with its numbers and its lent memory
+//! on one side or the other of an edge.
+
+mod bytes;
+mod chips;
+mod names;
+mod radio;
+
+use crate::case::{Argument, Case, Operation};
+use crate::frames::Format;
+use crate::random::Random;
+
+/// Numbers whose product with 6, 8, 12 or 16, or whose sum with a small number,
+/// does not fit: what wraps around anywhere shows here.
+const HUGE: [usize; 10] = [
+    usize::MAX,
+    usize::MAX - 1,
+    usize::MAX - 15,
+    usize::MAX / 2 + 1,
+    usize::MAX / 6 + 1,
+    usize::MAX / 8 + 1,
+    usize::MAX / 12 + 1,
+    usize::MAX / 16 + 1,
+    usize::MAX / 16 + 2,
+    usize::MAX / 250 + 1,
+];
+
+/// Cases without end, the operations in turn.
+pub struct Cases {
+    random: Random,
+    turn: usize,
+}
+
+impl Cases {
+    pub fn new(seed: u64) -> Cases {
+        Cases {
+            random: Random::new(seed),
+            turn: 0,
+        }
+    }
+}
+
+impl Iterator for Cases {
+    type Item = Case;
+
+    fn next(&mut self) -> Option<Case> {
+        let operation = Operation::ALL[self.turn];
+        self.turn = (self.turn + 1) % Operation::ALL.len();
+        Some(case(&mut self.random, operation))
+    }
+}
+
+/// A case for an operation.
+pub fn case(random: &mut Random, operation: Operation) -> Case {
+    let arguments = match operation {
+        Operation::Decode => chips::decode(random),
+        Operation::Encode => chips::encode(random),
+        Operation::Word => chips::word(random),
+        Operation::Search => chips::search(random),
+        Operation::Check => bytes::check(random),
+        Operation::CheckUpdate => bytes::check_update(random),
+        Operation::FrameRead => bytes::frame_read(random),
+        Operation::FrameWrite => bytes::frame_write(random),
+        Operation::FrameChange => bytes::frame_change(random),
+        Operation::FrameSize => bytes::frame_size(random),
+        Operation::Receive => radio::receive(random),
+        Operation::ReceiveManchester => radio::receive_manchester(random),
+        Operation::Send => radio::send(random),
+        Operation::HeaderRead => names::header_read(random),
+        Operation::HeaderWrite => names::header_write(random),
+        Operation::Access => vec![number(random.byte())],
+        Operation::Letters => names::letters(random),
+        Operation::Filter => names::filter(random),
+        Operation::ChannelRow => vec![names::index(random)],
+        Operation::ChannelCentre => vec![names::index(random), names::channel(random)],
+        Operation::BandListing => vec![names::band_input(random).into()],
+    };
+    Case::new(operation, arguments)
+}
+
+/// Every input of the operations that have few: access, letters, frame sizes,
+/// and all indices and channels a little beyond Table 21.
+pub fn small_inputs() -> Vec<Case> {
+    let mut cases = Vec::new();
+    for cc in 0..=0xFFu8 {
+        cases.push(Case::new(Operation::Access, vec![number(cc)]));
+    }
+    for m in 0..=0xFFFFu16 {
+        cases.push(Case::new(Operation::Letters, vec![number(m)]));
+    }
+    for format in Format::ALL {
+        for length in 0..=0xFFu8 {
+            let arguments = vec![number(format as u8), number(length)];
+            cases.push(Case::new(Operation::FrameSize, arguments));
+        }
+    }
+    for index in 0..=20usize {
+        cases.push(Case::new(Operation::ChannelRow, vec![index.into()]));
+        for channel in 0..=25usize {
+            cases.push(Case::new(
+                Operation::ChannelCentre,
+                vec![index.into(), channel.into()],
+            ));
+        }
+    }
+    for letter in 0..=0xFFu8 {
+        for input in [vec![letter], vec![letter, b'\n']] {
+            cases.push(Case::new(Operation::BandListing, vec![input.into()]));
+        }
+    }
+    cases
+}
+
+fn number(number: impl Into<u64>) -> Argument {
+    Argument::Number(number.into())
+}
+
+/// Lent memory for a result of this size: longer, just enough, one byte short
+/// or empty. What it holds is random, so that a byte wrongly written shows.
+fn output_for(random: &mut Random, size: usize) -> Vec<u8> {
+    let length = match random.below(10) {
+        0 => 0,
+        1 => size.saturating_sub(1),
+        2 => random.below(size + 1),
+        3..=5 => size,
+        6 => size + 1,
+        _ => size + random.below(40),
+    };
+    random.bytes(length)
+}

@@ -1,0 +1,124 @@
+//! Cases of headers, letters, the filter, channels and bands.
+
+use super::{number, output_for, HUGE};
+use crate::case::Argument;
+use crate::headers::HeaderKind;
+use crate::random::Random;
+
+pub fn header_read(random: &mut Random) -> Vec<Argument> {
+    let kind = random.pick(&HeaderKind::ALL);
+    let length = match random.below(8) {
+        0 => 0,
+        1 => 1,
+        2 => kind.length() - 1,
+        3 => kind.length(),
+        4 => random.below(18),
+        _ => kind.length() + random.below(30),
+    };
+    let mut body = random.bytes(length);
+    if let Some(ci) = body.first_mut() {
+        *ci = match random.below(6) {
+            0 => random.pick(&[0x86, 0x8B, 0x90, 0x00, 0x78, 0x0C, 0xCC]),
+            1 => random.byte(),
+            _ => kind.ci(),
+        };
+    }
+    vec![body.into()]
+}
+
+pub fn header_write(random: &mut Random) -> Vec<Argument> {
+    let kind = random.pick(&HeaderKind::ALL);
+    let out = output_for(random, kind.length());
+    vec![
+        number(kind as u8),
+        number(random.byte()),
+        number(random.byte()),
+        number((random.number() >> 30) as u16),
+        random.bytes(6).into(),
+        number((random.number() >> 30) as u32),
+        random.bytes(2).into(),
+        out.into(),
+    ]
+}
+
+pub fn letters(random: &mut Random) -> Vec<Argument> {
+    // Five-bit values about the edges of 1 to 26, with and without the top bit.
+    let five_bits = [0, 1, 2, 25, 26, 27, 31];
+    let m = if random.once_in(3) {
+        (random.number() >> 30) as u16
+    } else {
+        let top = random.pick(&[0, 0x8000]);
+        let three = [(); 3].map(|_| random.pick(&five_bits));
+        top + 1024 * three[0] + 32 * three[1] + three[2]
+    };
+    vec![number(m)]
+}
+
+pub fn filter(random: &mut Random) -> Vec<Argument> {
+    let entries = random.bytes(128);
+    let count = match random.below(10) {
+        0 => 0,
+        1 => 15,
+        2 | 3 => 16,
+        4 => 17,
+        5 => random.pick(&HUGE),
+        _ => random.below(17),
+    };
+    // The content of some entry, in use or not.
+    let chosen = match random.below(4) {
+        0 => count.min(15),
+        1 => count.clamp(1, 16) - 1,
+        _ => random.below(16),
+    };
+    let mut content = vec![random.byte()];
+    content.extend(&entries[8 * chosen..8 * chosen + 8]);
+    let behind = random.below(60);
+    content.extend(random.bytes(behind));
+    match random.below(10) {
+        0 | 1 => {
+            // Almost that entry.
+            let place = random.below(10).min(content.len() - 1);
+            content[place] ^= 1 << random.below(8);
+        }
+        2 => content.truncate(random.below(12)),
+        3 => content.truncate(8),
+        4 => content.truncate(9),
+        _ => {}
+    }
+    vec![entries.into(), count.into(), content.into()]
+}
+
+pub fn index(random: &mut Random) -> Argument {
+    match random.below(8) {
+        0 => random.pick(&HUGE).into(),
+        1 => (256 + random.below(16)).into(),
+        _ => random.below(16).into(),
+    }
+}
+
+pub fn channel(random: &mut Random) -> Argument {
+    match random.below(8) {
+        0 => random.pick(&HUGE).into(),
+        1 => (256 + random.below(8)).into(),
+        2 => random.below(20).into(),
+        _ => random.pick(&[0usize, 1, 3, 4, 5, 6, 7, 8, 17, 18]).into(),
+    }
+}
+
+pub fn band_input(random: &mut Random) -> Vec<u8> {
+    let letter = random.pick(b"ABCDABCD@Eabcd0\n");
+    match random.below(10) {
+        0 => vec![],
+        1 => vec![letter, b'\n', b'\n'],
+        2 => vec![letter, b'\r', b'\n'],
+        3 => vec![letter, letter],
+        4 => vec![b'\n', letter],
+        5 => vec![letter, b'\n', letter],
+        6 => {
+            let length = random.below(5);
+            random.bytes(length)
+        }
+        7 | 8 => vec![letter, b'\n'],
+        _ => vec![letter],
+    }
+}

@@ -1,0 +1,30 @@
+//! The second program: the collector's link layer, written a second time from
+//! document 01 ("Link layer rules for the collector") and EN 13757-4:2019.
+//!
+//! It exists to be compared with the proved library. Its value lies in being
+//! independent and obvious, so it is slow on purpose: chips are lists of
+//! `bool`, a check is a long division on a list of bits, a changed frame is
+//! read and written again. "01" in a comment is document 01; bare numbers such
+//! as 12.5.3 are clauses of the standard.
+//!
+//! Each operation first works out its whole result in memory of its own and
+//! touches the lent memory last. So a refusal leaves the lent memory as it was.
+
+pub mod answer;
+pub mod channels;
+pub mod check;
+pub mod chips;
+pub mod filter;
+pub mod frames;
+pub mod headers;
+pub mod radio;
+pub mod sync;
+
+pub mod case;
+pub mod compare;
+pub mod generator;
+pub mod implementation;
+pub mod random;
+
+#[cfg(test)]
+mod tests;

@@ -1,0 +1,62 @@
+//! Runs cases by hand.
+//!
+//! - `second cases SEED COUNT` makes cases and prints them, one a line.
+//! - `second rerun` reads cases from standard input, one a line, and prints
+//!   what the second program makes of each.
+//! - `second stats SEED COUNT` makes cases and prints how often each operation
+//!   gave each answer number.
+
+use std::io::BufRead;
+use std::process::ExitCode;
+
+use second::case::Case;
+use second::compare::compare;
+use second::generator::Cases;
+use second::implementation::Second;
+
+fn main() -> ExitCode {
+    let arguments: Vec<String> = std::env::args().skip(1).collect();
+    let words: Vec<&str> = arguments.iter().map(String::as_str).collect();
+    let done = match words[..] {
+        ["rerun"] => rerun(),
+        ["cases", seed, count] => cases(seed, count),
+        ["stats", seed, count] => stats(seed, count),
+        _ => Err(
+            "usage: second cases SEED COUNT | second rerun | second stats SEED COUNT".to_string(),
+        ),
+    };
+    match done {
+        Ok(()) => ExitCode::SUCCESS,
+        Err(message) => {
+            eprintln!("{message}");
+            ExitCode::FAILURE
+        }
+    }
+}
+
+fn rerun() -> Result<(), String> {
+    for line in std::io::stdin().lock().lines() {
+        let line = line.map_err(|error| error.to_string())?;
+        println!("{}", Case::from_text(&line)?.run(&Second));
+    }
+    Ok(())
+}
+
+fn number(text: &str) -> Result<u64, String> {
+    text.parse().map_err(|_| format!("{text}: not a number"))
+}
+
+fn cases(seed: &str, count: &str) -> Result<(), String> {
+    let count = number(count)?;
+    for case in Cases::new(number(seed)?).take(count as usize) {
+        println!("{case}");
+    }
+    Ok(())
+}
+
+fn stats(seed: &str, count: &str) -> Result<(), String> {
+    let (seed, count) = (number(seed)?, number(count)?);
+    let stats = compare(&Second, &Second, seed, count).map_err(|d| d.to_string())?;
+    println!("{stats}");
+    Ok(())
+}
