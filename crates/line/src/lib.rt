@@ -103,7 +103,7 @@ fn bits(code: Code) -> usize
 }
 
 // The chips of a word.
-fn width(code: Code) -> usize
+pub fn width(code: Code) -> usize
     ensures { λ r. ⌜ r ≡ codeOf code .chips ⌝ }
 {
     match code {
