@@ -3,3 +3,5 @@ pub mod SpanLaws
 pub mod CutLaws
 pub mod WalkLaws
 pub mod TurnLaws
+pub mod PlaceLaws
+pub mod MendLaws

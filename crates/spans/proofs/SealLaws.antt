@@ -17,7 +17,7 @@ unfolding sealed
 length-sealed q = length-append q (checkOf q / 256 ∷ checkOf q % 256 ∷ [])
 
 -- the whole list that begins with a sealed span, taken apart
-sealed-append : (q t : List ℕ) → sealed q ++ t ≡ q ++ checkOf q / 256 ∷ checkOf q % 256 ∷ t
+pub sealed-append : (q t : List ℕ) → sealed q ++ t ≡ q ++ checkOf q / 256 ∷ checkOf q % 256 ∷ t
 unfolding sealed
 sealed-append q t = append-assoc q (checkOf q / 256 ∷ checkOf q % 256 ∷ []) t
 

@@ -4,10 +4,12 @@
 // `later`. Callers have judged the lengths before they walk (docs/DECISIONS.md, D23).
 ghost use mathlib.Core.Path.{_≡_};
 ghost use mathlib.Core.List.{_∷_, _++_};
-ghost use Prim.Native.Nat.{_+_, _≤_, _<_, min};
+ghost use Prim.Native.Nat.{_+_, _-_, _≤_, _<_, _^_, min};
 ghost use lib.ListN.{length, take, drop};
 ghost use lib.Seq.{paste};
+ghost use Rattle.spans.specs.Places.{placeIn, checkIn, mended};
 ghost use Rattle.spans.specs.Spans.{sealed, framed, payload, blockOk, firstWrong, sizeOf, spans};
+use crc::Updated;
 
 // What the checks behind the spans say: all right, or the first wrong span, counted from 1.
 pub enum Checks {
@@ -139,4 +141,72 @@ pub fn put_all(l: u8, c: &[u8], first: usize, later: usize, out: &mut [u8])
         at += k + 2;
         done += k;
     }
+}
+
+// Where a byte of the payload stands: its span, and how many bytes of the span stand before it.
+struct Spot {
+    start: usize,
+    length: usize,
+    offset: usize,
+}
+
+// The place of byte j of t bytes of payload: whole spans are passed until it is in the one at hand.
+fn locate(first: usize, later: usize, t: usize, j: usize) -> Spot
+    requires { ⌜ (0 < first) × ((0 < later) × ((j < t) × (sizeOf (spans first later t) < 2 ^ 64))) ⌝ }
+    ensures { λ r.
+        ⌜ (r .start + r .offset ≡ placeIn (spans first later t) j) × (r .start + r .length ≡ checkIn (spans first later t) j) ⌝ }
+{
+    let mut at: usize = 0;
+    let mut most = first;
+    let mut left = t;
+    let mut i = j;
+    while most <= i {
+        at += most + 2;
+        left -= most;
+        i -= most;
+        most = later;
+    }
+    Spot {
+        start: at,
+        length: smaller(most, left),
+        offset: i,
+    }
+}
+
+fn wide(b: u8) -> u16
+    ensures { λ r. ⌜ r ≡ b ⌝ }
+{
+    b as u16
+}
+
+// Place `byte` becomes v, and the check at place `check` follows from the one that stood there: the bytes between the
+// changed one and the end of its span are counted, not read.
+fn mend(s: &mut [u8], byte: usize, check: usize, distance: usize, v: u8)
+    requires { ⌜ (byte < check) × ((check + 2 ≤ length (now s)) × ((distance ≡ check - 1 - byte) × (distance ≤ 125))) ⌝ }
+    ensures { λ r. ⌜ now (s .exit) ≡ mended (now (s .entry)) byte check v ⌝ }
+{
+    let old_check = wide(s[check]) * 256 + wide(s[check + 1]);
+    let Updated::Accepted(new_check) = crc::update(old_check, s[byte], v, distance) else {
+        return;
+    };
+    s[byte] = v;
+    s[check] = (new_check / 256) as u8;
+    s[check + 1] = (new_check % 256) as u8;
+}
+
+// Byte j of the payload becomes v, and the check over it is mended.
+pub fn set_byte(s: &mut [u8], first: usize, later: usize, t: usize, j: usize, v: u8)
+    requires { ⌜ ((0 < first) × (first ≤ 126)) × (((0 < later) × (later ≤ 126)) × ((j < t) × (sizeOf (spans first later t) ≤ length (now s)))) ⌝ }
+    ensures { λ r.
+        ⌜ now (s .exit) ≡ mended (now (s .entry)) (placeIn (spans first later t) j) (checkIn (spans first later t) j) v ⌝ }
+{
+    let spot = locate(first, later, t, j);
+    let distance = spot.length - 1 - spot.offset;
+    mend(
+        s,
+        spot.start + spot.offset,
+        spot.start + spot.length,
+        distance,
+        v,
+    );
 }
