@@ -94,7 +94,7 @@ no-frame : (z n : ℕ) → Judged.Short ≡ Judged.Accepted z n → ⊥
 no-frame z n h = let one : _≡_ {A = ℕ} 0 1 = cc in omega arith
 
 -- the accepted content is the one whose frame stands there
-frameOf-length : (f : Format) (c : List ℕ) (n : ℕ) → length c ≡ n → frameOf f c ≡ framed (spansOf f n) (formOf f .lengthByte n ∷ c)
+pub frameOf-length : (f : Format) (c : List ℕ) (n : ℕ) → length c ≡ n → frameOf f c ≡ framed (spansOf f n) (formOf f .lengthByte n ∷ c)
 unfolding frameOf
 frameOf-length f c n e = rw e
 
@@ -140,3 +140,17 @@ frame-unique f s z y c d p q =
     let same : Judged.Accepted z (length c) ≡ Judged.Accepted y (length d) = sym (accepts f s z c p) ∙ accepts f s y d q in
     let n : length c ≡ length d = cc in
     (cc, sym (content-there f s z c p) ∙ ap (λ (k : ℕ). contentIn f k s) n ∙ content-there f s y d q)
+
+-- what an accepted buffer holds, as the walks over spans want it
+pub accepted-right : (f : Format) (s : List ℕ) (z n : ℕ) → judgeOf f s ≡ Judged.Accepted z n → firstWrong 1 (spansOf f n) s ≡ Right
+unfolding judgeOf
+accepted-right f [] z n h = absurd (no-frame z n h)
+accepted-right f (l ∷ s) z n h = by-size f (l ∷ s) l z n (sizeFor f l) refl h .right
+
+pub accepted-payload : (f : Format) (s : List ℕ) (z n : ℕ) → judgeOf f s ≡ Judged.Accepted z n → payload (spansOf f n) s ≡ formOf f .lengthByte n ∷ contentIn f n s
+unfolding judgeOf
+accepted-payload f [] z n h = absurd (no-frame z n h)
+accepted-payload f (l ∷ s) z n h =
+    let p = sizeFor-bytes f l z n (by-size f (l ∷ s) l z n (sizeFor f l) refl h .sized) in
+    let byte : formOf f .lengthByte n ≡ l = rw (p .content) at (length-there f l (p .allowed) .0) in
+    rw byte (payload-content f l s n)

@@ -5,3 +5,5 @@ pub mod FrameLaws
 pub mod AcceptLaws
 pub mod ReadLaws
 pub mod WriteLaws
+pub mod ChangeLaws
+pub mod SequenceLaws

@@ -8,6 +8,7 @@ ghost use Rattle.frame.specs.Formats.{formOf, frameSize, sizeFor};
 ghost use Rattle.frame.specs.Judging.{judgeOf};
 ghost use Rattle.frame.specs.Reads.{readingOf};
 ghost use Rattle.frame.specs.Writes.{writingOf};
+ghost use Rattle.frame.specs.Changes.{changingOf};
 use spans::Checks;
 
 // The two frame formats.
@@ -272,4 +273,23 @@ pub fn write(f: Format, content: &[u8], out: &mut [u8]) -> Written
     }
     spans::put_all(f.length_byte(n), content, f.first(), f.later(), out);
     Written::Accepted(size)
+}
+
+// Sets one content byte of the frame that s begins with; its check is mended, all other bytes stay.
+pub fn change(f: Format, s: &mut [u8], place: usize, byte: u8) -> Changed
+    ensures { λ r.
+        ⌜ _≡_ {A = Outcome Changed} (record { answer = r; memory = now (s .exit) }) (changingOf f (now (s .entry)) place byte) ⌝ }
+{
+    match judge(f, s) {
+        Judged::Short => Changed::Short,
+        Judged::BadLength => Changed::BadLength,
+        Judged::WrongCheck(block) => Changed::WrongCheck(block),
+        Judged::Accepted { size, n } => {
+            if n <= place {
+                return Changed::BadPlace;
+            }
+            spans::set_byte(s, f.first(), f.later(), n + 1, place + 1, byte);
+            Changed::Accepted { size, n }
+        }
+    }
 }
