@@ -1,3 +1,9 @@
 pub mod LayoutLaws
 pub mod ReadingLaws
 pub mod WritingLaws
+pub mod SentLaws
+pub mod TakenLaws
+pub mod HeaderLaws
+pub mod AccessLaws
+pub mod LettersLaws
+pub mod WorkedExamples

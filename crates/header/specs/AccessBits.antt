@@ -1,8 +1,8 @@
 -- When a meter may be called (EN 13757-4:2019, 12.6.3.2, Table 37; 13.2.7).
 --     bitB cc, bitA cc    the table's two bits in the byte CC: bit 7, bit 2
 --     accessOf cc         the access that CC announces
--- An answer of its own for every CC: its document 01 number is 0, its value the table's row. Not here: the other
--- bits of CC, on which nothing is built.
+--     numberOf a, rowOf a    document 01's number for the answer a, and its value: the table's row, 0 to 3
+-- Not here: the other bits of CC, on which nothing is built.
 use mathlib.Core.Bool.{cond}
 use Prim.Native.Nat.{ℕ, _/_, _%_}
 use lib.Dec.{eqb}

@@ -1,5 +1,6 @@
 -- Reading an extended header from a body (document 01, "Extended headers and names", "Answer numbers").
 --     numberOf a, valuesOf a    document 01's number for the answer a, and the values beside it: length, then the fields
+--     fieldsOf h                the fields of h in the order of 13.2, M2 and SN as numbers, A2 and PayloadCRC as bytes
 --     kindOf ci                 the kind that the CI byte names, if it names one
 --     twoAt s k, fourAt s k     the number in two or four bytes of s from place k, least significant first
 --     receiverAt s k, sessionAt s k    M2 A2, or SN PayloadCRC, from place k of s

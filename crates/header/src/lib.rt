@@ -22,12 +22,12 @@ pub enum Kind {
 }
 
 // The kind that a CI byte names.
-pub enum Named {
+enum Named {
     Is(Kind),
     NoKind,
 }
 
-// Six bytes as they are sent. Apart from an array, which an answer cannot hold.
+// A2: six bytes as they are sent. No array, since an answer could not carry it.
 pub struct Address(pub u8, pub u8, pub u8, pub u8, pub u8, pub u8);
 
 // Whom the frame is for: M2 and A2.
@@ -36,10 +36,10 @@ pub struct Receiver {
     pub a2: Address,
 }
 
-// The payload check as it is sent, not judged.
+// PayloadCRC: two bytes as they are sent, not judged.
 pub struct PayloadCheck(pub u8, pub u8);
 
-// SN and PayloadCRC.
+// What encryption needs: SN and PayloadCRC.
 pub struct Session {
     pub sn: u32,
     pub check: PayloadCheck,
@@ -79,50 +79,6 @@ pub enum Maker {
     NoLetters,
 }
 
-fn has_receiver(kind: Kind) -> bool
-    ensures { λ r. ⌜ r ≡ addressed kind ⌝ }
-{
-    match kind {
-        Kind::Plain => false,
-        Kind::Secured => false,
-        Kind::Addressed => true,
-        Kind::AddressedSecured => true,
-    }
-}
-
-fn has_session(kind: Kind) -> bool
-    ensures { λ r. ⌜ r ≡ secured kind ⌝ }
-{
-    match kind {
-        Kind::Plain => false,
-        Kind::Secured => true,
-        Kind::Addressed => false,
-        Kind::AddressedSecured => true,
-    }
-}
-
-fn session_place(kind: Kind) -> usize
-    ensures { λ r. ⌜ r ≡ sessionPlace kind ⌝ }
-{
-    match kind {
-        Kind::Plain => 3,
-        Kind::Secured => 3,
-        Kind::Addressed => 11,
-        Kind::AddressedSecured => 11,
-    }
-}
-
-fn length_of(kind: Kind) -> usize
-    ensures { λ r. ⌜ r ≡ lengthOf kind ⌝ }
-{
-    match kind {
-        Kind::Plain => 3,
-        Kind::Secured => 9,
-        Kind::Addressed => 11,
-        Kind::AddressedSecured => 17,
-    }
-}
-
 fn ci_of(kind: Kind) -> u8
     ensures { λ r. ⌜ r ≡ ciOf kind ⌝ }
 {
@@ -146,53 +102,53 @@ fn kind_of(ci: u8) -> Named
     }
 }
 
-// The access that the byte CC announces (Table 37).
-pub fn announced(cc: u8) -> Access
-    ensures { λ r. ⌜ r ≡ accessOf cc ⌝ }
+fn has_receiver(kind: Kind) -> bool
+    ensures { λ r. ⌜ r ≡ addressed kind ⌝ }
 {
-    let b = cc / 128 % 2;
-    let a = cc / 4 % 2;
-    if b == 0 {
-        if a == 0 {
-            Access::NoAccess
-        } else {
-            Access::NoneForNow
-        }
-    } else {
-        if a == 0 {
-            Access::Limited
-        } else {
-            Access::Unlimited
-        }
+    match kind {
+        Kind::Plain => false,
+        Kind::Secured => false,
+        Kind::Addressed => true,
+        Kind::AddressedSecured => true,
     }
 }
 
-fn is_letter(v: u16) -> bool
-    ensures { λ r. ⌜ r ≡ isLetter v ⌝ }
+fn has_session(kind: Kind) -> bool
+    ensures { λ r. ⌜ r ≡ secured kind ⌝ }
 {
-    1 <= v && v <= 26
+    match kind {
+        Kind::Plain => false,
+        Kind::Secured => true,
+        Kind::Addressed => false,
+        Kind::AddressedSecured => true,
+    }
 }
 
-// The letters of M (12.5.5): five bits each, below the top bit.
-pub fn letters(m: u16) -> Maker
-    ensures { λ r. ⌜ r ≡ lettersOf m ⌝ }
+// Where SN starts: behind A2, if there is one.
+fn session_place(kind: Kind) -> usize
+    ensures { λ r. ⌜ r ≡ sessionPlace kind ⌝ }
 {
-    let code = m % 32768;
-    let first = code / 1024;
-    let second = code / 32 % 32;
-    let third = code % 32;
-    if !is_letter(first) {
-        return Maker::NoLetters;
+    match kind {
+        Kind::Plain => 3,
+        Kind::Secured => 3,
+        Kind::Addressed => 11,
+        Kind::AddressedSecured => 11,
     }
-    if !is_letter(second) {
-        return Maker::NoLetters;
-    }
-    if !is_letter(third) {
-        return Maker::NoLetters;
-    }
-    Maker::Three((first + 64) as u8, (second + 64) as u8, (third + 64) as u8)
 }
 
+// The bytes of a header, CI among them (Table 43).
+fn length_of(kind: Kind) -> usize
+    ensures { λ r. ⌜ r ≡ lengthOf kind ⌝ }
+{
+    match kind {
+        Kind::Plain => 3,
+        Kind::Secured => 9,
+        Kind::Addressed => 11,
+        Kind::AddressedSecured => 17,
+    }
+}
+
+// Numbers are sent with the least significant byte first (13.2.1).
 fn two_at(s: &[u8], k: usize) -> u16
     requires { ⌜ k + 1 < length (now s) ⌝ }
     ensures { λ r. ⌜ r ≡ twoAt (now (s .entry)) k ⌝ }
@@ -364,4 +320,51 @@ pub fn write(h: Header, out: &mut [u8]) -> HeaderWritten
     put_receiver(out, kind, receiver);
     put_session(out, kind, session);
     HeaderWritten::Accepted(n)
+}
+
+// The access that the byte CC announces (Table 37).
+pub fn announced(cc: u8) -> Access
+    ensures { λ r. ⌜ r ≡ accessOf cc ⌝ }
+{
+    let b = cc / 128 % 2;
+    let a = cc / 4 % 2;
+    if b == 0 {
+        if a == 0 {
+            Access::NoAccess
+        } else {
+            Access::NoneForNow
+        }
+    } else {
+        if a == 0 {
+            Access::Limited
+        } else {
+            Access::Unlimited
+        }
+    }
+}
+
+fn is_letter(v: u16) -> bool
+    ensures { λ r. ⌜ r ≡ isLetter v ⌝ }
+{
+    1 <= v && v <= 26
+}
+
+// The letters of M (12.5.5): five bits each, below the top bit.
+pub fn letters(m: u16) -> Maker
+    ensures { λ r. ⌜ r ≡ lettersOf m ⌝ }
+{
+    let code = m % 32768;
+    let first = code / 1024;
+    let second = code / 32 % 32;
+    let third = code % 32;
+    if !is_letter(first) {
+        return Maker::NoLetters;
+    }
+    if !is_letter(second) {
+        return Maker::NoLetters;
+    }
+    if !is_letter(third) {
+        return Maker::NoLetters;
+    }
+    Maker::Three((first + 64) as u8, (second + 64) as u8, (third + 64) as u8)
 }
