@@ -43,7 +43,7 @@ coded κ s at n d next =
     next)
 
 -- 3, 4 or accepted: as the frame's bytes are read
-unfoldable pub answerOf : Kind → ℕ → ℕ → Reading → Reception
+abbrev pub answerOf : Kind → ℕ → ℕ → Reading → Reception
 answerOf k place t (Reading.Accepted z n) = Reception.Accepted k place t z n
 answerOf k place t Reading.Short = Reception.Short
 answerOf k place t Reading.BadLength = Reception.BadLength

@@ -1,5 +1,27 @@
 // Frames in chips: receive and send (EN 13757-4:2019, 6.4, 7.4.2, 9.4; document 01, "Sync search", "Answer numbers").
+ghost use mathlib.Core.Path.{_≡_};
+ghost use mathlib.Core.Bool.{cond};
+ghost use mathlib.Core.List.{_++_};
+ghost use Prim.Native.Nat.{_+_, _*_, _≤_};
+ghost use lib.ListN.{length, drop};
+ghost use lib.Dec.{ltb};
+ghost use Rattle.ground.specs.Outcome.{Outcome};
+ghost use Rattle.chips.specs.Chips.{chipCount, roomLimit};
+ghost use Rattle.sync.specs.Kinds.{leadOf, syncBytes};
+ghost use Rattle.radio.specs.Kinds.{codeFor, formatOf, lineOf};
+ghost use Rattle.radio.specs.Receiving.{answerOf, frameAfter, bySize, receptionOf, manchesterOf};
+ghost use Rattle.radio.specs.Sending.{sendingOf};
+ghost use Rattle.frame.specs.declared.FrameSize.{FrameSize};
+use frame::Format;
+use frame::FrameSize;
+use frame::Reading;
+use frame::Written;
+use line::Code;
+use line::Decoded;
+use line::Encoded;
 use sync::Kind;
+use sync::Sync;
+use sync::Tail;
 
 // What receiving answers.
 pub enum Reception {
@@ -38,4 +60,142 @@ pub enum Sent {
     Accepted(usize),
     NoRoom,
     BadContent,
+}
+
+// The largest frame: format A with 255 bytes of content.
+const FRAME: usize = 290;
+
+// The line code of a kind.
+fn code_of(kind: Kind) -> Code
+    ensures { λ r. ⌜ r ≡ codeFor kind ⌝ }
+{
+    match kind {
+        Kind::TWithA => Code::ThreeOfSix,
+        Kind::CWithA => Code::Nrz,
+        Kind::CWithB => Code::Nrz,
+        Kind::ManchesterWithA => Code::Manchester,
+    }
+}
+
+// The frame format of a kind.
+fn format_of(kind: Kind) -> Format
+    ensures { λ r. ⌜ r ≡ formatOf kind ⌝ }
+{
+    match kind {
+        Kind::TWithA => Format::A,
+        Kind::CWithA => Format::A,
+        Kind::CWithB => Format::B,
+        Kind::ManchesterWithA => Format::A,
+    }
+}
+
+// How many sync chips stand before the frame.
+fn lead(kind: Kind) -> usize
+    ensures { λ r. ⌜ (r ≡ leadOf kind) × (r ≤ 32) ⌝ }
+{
+    match kind {
+        Kind::TWithA => 16,
+        Kind::CWithA => 32,
+        Kind::CWithB => 32,
+        Kind::ManchesterWithA => 0,
+    }
+}
+
+// The answer of a reading, with what is known of the chips.
+fn answer(kind: Kind, place: usize, tried: usize, read: Reading) -> Reception
+    ensures { λ r. ⌜ r ≡ answerOf kind place tried read ⌝ }
+{
+    match read {
+        Reading::Accepted { size, n } => Reception::Accepted {
+            kind,
+            place,
+            tried,
+            size,
+            n,
+        },
+        Reading::Short => Reception::Short,
+        Reading::BadLength => Reception::BadLength,
+        Reading::WrongCheck(block) => Reception::WrongCheck(block),
+        Reading::NoRoom => Reception::NoRoom,
+    }
+}
+
+// The whole frame of `size` bytes: its chips, its words, then its bytes, decoded beside the lent memory.
+fn whole(
+    kind: Kind,
+    place: usize,
+    tried: usize,
+    s: &[u8],
+    size: usize,
+    n: usize,
+    out: &mut [u8],
+) -> Reception
+    requires { ⌜ ((length (now s) ≤ roomLimit) × (place + leadOf kind ≤ chipCount (now s))) × (size ≤ 290) ⌝ }
+    ensures { λ r.
+        ⌜ _≡_ {A = Outcome Reception} (record { answer = r; memory = now (out .exit) }) (bySize kind place tried (now (s .entry)) (now (out .entry)) (FrameSize.Bytes size n)) ⌝ }
+{
+    let mut bytes = [0u8; FRAME];
+    match line::decode(code_of(kind), s, place + lead(kind), size, &mut bytes) {
+        Decoded::Accepted => answer(
+            kind,
+            place,
+            tried,
+            frame::read(format_of(kind), &bytes[..size], out),
+        ),
+        Decoded::Short => Reception::Short,
+        Decoded::BadWord(i) => Reception::BadWord(i),
+        Decoded::NoRoom => Reception::NoRoom,
+        Decoded::OutOfRange => Reception::OutOfRange,
+    }
+}
+
+// The frame of a kind behind its sync chips at `place`: the first byte, which has the length, then the whole.
+fn frame_after(kind: Kind, place: usize, tried: usize, s: &[u8], out: &mut [u8]) -> Reception
+    requires { ⌜ (length (now s) ≤ roomLimit) × (place + leadOf kind ≤ chipCount (now s)) ⌝ }
+    ensures { λ r.
+        ⌜ _≡_ {A = Outcome Reception} (record { answer = r; memory = now (out .exit) }) (frameAfter kind place tried (now (s .entry)) (now (out .entry))) ⌝ }
+{
+    let mut first = [0u8; 1];
+    match line::decode(code_of(kind), s, place + lead(kind), 1, &mut first) {
+        Decoded::Accepted => match format_of(kind).frame_size(first[0]) {
+            FrameSize::Bytes { size, n } => whole(kind, place, tried, s, size, n, out),
+            FrameSize::BadLength => Reception::BadLength,
+        },
+        Decoded::Short => Reception::Short,
+        Decoded::BadWord(i) => Reception::BadWord(i),
+        Decoded::NoRoom => Reception::NoRoom,
+        Decoded::OutOfRange => Reception::OutOfRange,
+    }
+}
+
+// A frame of mode T or C, searched from `start` on over at most `allowance` positions.
+pub fn receive(s: &[u8], start: usize, allowance: usize, out: &mut [u8]) -> Reception
+    ensures { λ r.
+        ⌜ _≡_ {A = Outcome Reception} (record { answer = r; memory = now (out .exit) }) (receptionOf (now (s .entry)) start allowance (now (out .entry))) ⌝ }
+{
+    match sync::search(s, start, allowance) {
+        Sync::Found { place, tried } => match sync::tail_at(s, place) {
+            Tail::Begins(kind) => frame_after(kind, place, tried, s, out),
+            Tail::Short => Reception::Short,
+            Tail::UnknownTail(at) => Reception::UnknownTail(at),
+            Tail::OutOfRange => Reception::OutOfRange,
+        },
+        Sync::NoSync(tried) => Reception::NoSync(tried),
+        Sync::UsedUp(tried) => Reception::UsedUp(tried),
+        Sync::OutOfRange => Reception::OutOfRange,
+    }
+}
+
+// A Manchester frame whose first chip stands at `start`.
+pub fn receive_manchester(s: &[u8], start: usize, out: &mut [u8]) -> Reception
+    ensures { λ r.
+        ⌜ _≡_ {A = Outcome Reception} (record { answer = r; memory = now (out .exit) }) (manchesterOf (now (s .entry)) start (now (out .entry))) ⌝ }
+{
+    if s.len() > 1024 {
+        return Reception::OutOfRange;
+    }
+    if start > s.len() * 8 {
+        return Reception::OutOfRange;
+    }
+    frame_after(Kind::ManchesterWithA, start, 0, s, out)
 }

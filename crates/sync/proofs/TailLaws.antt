@@ -1,18 +1,23 @@
 -- The tail behind a sync word (specs/Tails), case by case.
 --     tailOf-long, -behind     the buffer is too long, the place lies behind it
 --     tailOf-short, -there     fewer than 32 chips are left from the sync word on, or at least so many
+--     leadOf-le                no kind has more than 32 sync chips
+--     begins-there             where a frame begins, its sync chips are all there
 use mathlib.Core.Bool.{Bool, true, false, cond}
 use mathlib.Core.Path.{_≡_, refl}
 use mathlib.Core.List.{List}
 use Prim.Native.Nat.{ℕ, _+_, _≤_, _<_}
 use native.Mathlib.Omega.{arith}
-use borrow.Author.Tests.{lt-ltb, le-ltb, le-leb, lt-leb}
-use lib.Dec.{leb}
+use borrow.Author.Tests.{lt-ltb, le-ltb, le-leb, lt-leb, leb-true, ltb-false}
+use lib.Dec.{leb, ltb}
 use lib.ListN.{length}
 use Rattle.chips.specs.Chips.{wordAt, chipCount, roomLimit}
 use Rattle.sync.specs.Tails.{tailOf, kindFor}
 use Rattle.sync.specs.declared.Tail.{Tail}
-use Rattle.sync.specs.declared.Tail.the-variants.{Short, OutOfRange}
+use Rattle.sync.specs.declared.Tail.the-variants.{Begins, Short, OutOfRange}
+use Rattle.sync.specs.declared.Kind.{Kind}
+use Rattle.sync.specs.declared.Kind.the-variants.{TWithA, CWithA, CWithB, ManchesterWithA}
+use Rattle.sync.specs.Kinds.{leadOf}
 
 module _ (s : List ℕ) (k : ℕ) where
   pub tailOf-long : roomLimit < length s → tailOf s k ≡ OutOfRange
@@ -36,3 +41,22 @@ module _ (s : List ℕ) (k : ℕ) where
   tailOf-there h l =
       let g : k ≤ chipCount s = omega arith in
       rw (le-leb (length s) roomLimit h, le-leb k (chipCount s) g, le-ltb (chipCount s) (k + 32) l)
+
+pub leadOf-le : (kind : Kind) → leadOf kind ≤ 32
+leadOf-le TWithA = omega arith
+leadOf-le CWithA = omega arith
+leadOf-le CWithB = omega arith
+leadOf-le ManchesterWithA = omega arith
+
+-- a tail that begins a frame is there: the frame's first chip is not behind the buffer
+pub begins-there : (s : List ℕ) (k : ℕ) (kind : Kind) → tailOf s k ≡ Begins kind → (length s ≤ roomLimit) × (k + leadOf kind ≤ chipCount s)
+unfolding tailOf
+begins-there s k kind e =
+    by-tests (leb (length s) roomLimit) refl (leb k (chipCount s)) (ltb (chipCount s) (k + 32)) refl (kindFor k (wordAt s (k + 16) 16)) e
+  where
+    by-tests : (a : Bool) → leb (length s) roomLimit ≡ a → (b t : Bool) → ltb (chipCount s) (k + 32) ≡ t → (o : Tail) → cond (cond a b false) (cond t Short o) OutOfRange ≡ Begins kind
+        → (length s ≤ roomLimit) × (k + leadOf kind ≤ chipCount s)
+    by-tests true d true false f o g = (leb-true (length s) roomLimit d, omega (arith, ltb-false (chipCount s) (k + 32) f, leadOf-le kind))
+    by-tests true d true true f o g = let z : _≡_ {A = ℕ} 0 1 = cc in omega arith
+    by-tests true d false t f o g = let z : _≡_ {A = ℕ} 0 1 = cc in omega arith
+    by-tests false d b t f o g = let z : _≡_ {A = ℕ} 0 1 = cc in omega arith

@@ -1,0 +1,28 @@
+-- How large frames get: 290 bytes, format A with 255 bytes of content.
+--     frameSize-le    the frame of any content that its format allows
+--     sizeFor-le      the frame that any length byte says
+use mathlib.Core.Bool.{Bool, true, false}
+use mathlib.Core.Path.{_≡_, refl}
+use Prim.Native.Nat.{ℕ, _≤_}
+use native.Mathlib.Omega.{arith}
+use borrow.Author.Tests.{ltb-true, ltb-false}
+use lib.Dec.{ltb}
+use Rattle.frame.specs.declared.Format.{Format}
+use Rattle.frame.specs.declared.Format.the-variants.{A, B}
+use Rattle.frame.specs.declared.FrameSize.{FrameSize}
+use Rattle.frame.specs.Formats.{formOf, frameSize, sizeFor}
+use Rattle.frame.proofs.FormatLaws.{frameSize-A, frameSize-B, frameSize-B-long}
+use Rattle.frame.proofs.JudgeLaws.{sizeFor-bytes, sizeFor-high}
+
+pub frameSize-le : (f : Format) (n : ℕ) → n ≤ formOf f .longest → frameSize f n ≤ 290
+frameSize-le A n h = omega (arith, frameSize-A n)
+frameSize-le B n h = by-test (ltb n 126) refl
+  where
+    by-test : (t : Bool) → ltb n 126 ≡ t → frameSize B n ≤ 290
+    by-test true e = omega (arith, frameSize-B n (ltb-true n 126 e))
+    by-test false e = omega (arith, frameSize-B-long n (ltb-false n 126 e) h)
+
+pub sizeFor-le : (f : Format) (l z n : ℕ) → sizeFor f l ≡ FrameSize.Bytes z n → z ≤ 290
+sizeFor-le f l z n e =
+    let size : z ≡ frameSize f n = sizeFor-bytes f l z n e .size in
+    omega (arith, frameSize-le f n (sizeFor-high f l z n e))
