@@ -2,24 +2,26 @@
 -- number worked out from Table 21).
 --     float-exact    below 2^53 quarters of a kilohertz, a float is exactly so many quarters
 --     exact          so is the centre of each channel
+--     row-exact      so are the three numbers of each row
 --     Sound i c      what the code's float arithmetic gives for channel c of index i: the centre as a sum of floats, and in hertz
 --     sound          it holds of all 103 channels, by one computed test
 -- Assumes nothing.
-use mathlib.Core.Path.{_≡_, sym, ap, _∙_}
+use mathlib.Core.Path.{_≡_, refl, sym, ap, _∙_}
 use mathlib.Core.Bool.{Bool, true, false, _&&_}
-use Prim.Native.Nat.{ℕ, _*_, _^_, _<_, _≤_}
+use Prim.Native.Nat.{ℕ, _*_, _^_, _<_}
 use native.Mathlib.Nat.{mul-assoc, lt-of-lt-of-le}
 use lib.Dec.{T, eqb, ltb, eqb→eq, ltb→lt, lit<, lit≤}
 use lib.Pow.{shl-lt}
 use lib.IntN.{pos}
+use borrow.Author.Tests.{ltb-true, ltb-false}
 use lib.Count.{trailingZeros}
 use lib.Ieee.{Float, binary64, round, add, sum, mul, ofInt, ofBits, ofFields, toBits, toUnsigned, inUnsigned, inFloat, whole, fits, size, span, climb, units, odd}
 use lib.Ieee.Bits.{ofBits-toBits}
 use lib.Ieee.Exact.{HasValue, round-exact}
-use lib.Ieee.Fits.{add-fits, round-fits}
+use lib.Ieee.Fits.{add-fits, round-fits, and-l, and-r}
 use Rattle.ground.proofs.TableLaws.{allBelow, below-at}
-use Rattle.channels.proofs.Table21Laws.{index-below}
-use Rattle.channels.specs.Table21.{table, entryOf, channelsOf, quartersOf}
+use Rattle.channels.proofs.Table21Laws.{entryOf-past, index-below}
+use Rattle.channels.specs.Table21.{Entry, table, entryOf, channelsOf, quartersOf}
 use Rattle.channels.specs.Plan.{float, rowOf}
 
 pub float-exact : (q : ℕ) → q < 2 ^ 53 → HasValue (float q) false q 4
@@ -93,3 +95,35 @@ sound i c h =
 
 pub exact : (i c : ℕ) → c < channelsOf i → HasValue (float (quartersOf i c)) false (quartersOf i c) 4
 exact i c h = float-exact (quartersOf i c) (sound i c h .small)
+
+-- the three numbers of a row are exact too, also the zeros where there is no row
+pub record RowExact (i : ℕ) : Type 0 where
+  pub centre : HasValue (rowOf i .centre) false (entryOf i .centre) 4
+  pub spacing : HasValue (rowOf i .spacing) false (entryOf i .spacing) 4
+  pub tolerance : HasValue (rowOf i .tolerance) false (entryOf i .tolerance) 4
+
+small-entry? : Entry → Bool
+small-entry? e = ltb (e .centre) (2 ^ 53) && (ltb (e .spacing) (2 ^ 53) && ltb (e .tolerance) (2 ^ 53))
+
+all-small : T (allBelow (λ i. small-entry? (entryOf i)) 14)
+unfolding small-entry? entryOf table
+all-small = tt
+
+small-entry : (i : ℕ) (b : Bool) → ltb i 14 ≡ b → T (small-entry? (entryOf i))
+unfolding small-entry?
+small-entry i true e = below-at (λ j. small-entry? (entryOf j)) 14 all-small i (ltb-true i 14 e)
+small-entry i false e = rw (entryOf-past i (ltb-false i 14 e)) tt
+
+pub row-exact : (i : ℕ) → RowExact i
+unfolding small-entry? rowOf
+row-exact i =
+    let f = entryOf i .centre in
+    let s = entryOf i .spacing in
+    let t = entryOf i .tolerance in
+    let small = small-entry i (ltb i 14) refl in
+    let rest = and-r (ltb f (2 ^ 53)) (ltb s (2 ^ 53) && ltb t (2 ^ 53)) small in
+    record {
+      centre = float-exact f (ltb→lt f (2 ^ 53) (and-l (ltb f (2 ^ 53)) (ltb s (2 ^ 53) && ltb t (2 ^ 53)) small));
+      spacing = float-exact s (ltb→lt s (2 ^ 53) (and-l (ltb s (2 ^ 53)) (ltb t (2 ^ 53)) rest));
+      tolerance = float-exact t (ltb→lt t (2 ^ 53) (and-r (ltb s (2 ^ 53)) (ltb t (2 ^ 53)) rest));
+    }

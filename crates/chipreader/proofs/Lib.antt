@@ -1,3 +1,4 @@
 pub mod ReadingLaws
+pub mod ExampleLaws
 pub mod Walking
 pub mod Parts
