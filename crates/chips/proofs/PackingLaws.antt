@@ -11,11 +11,12 @@
 --     wordAt-packed      so is a word of them
 --     length-packed      as many bytes as hold the chips
 --     packed-whole       where the chips fill n bytes, each byte is a word of eight of them
+--     chipAt-middle      a chip of bytes that stand between other bytes
 --     packed-lt          the packed bytes are bytes
 use mathlib.Core.Path.{_≡_, refl, ap, sym, _∙_}
 use mathlib.Core.Bool.{Bool, true, false, cond}
 use mathlib.Core.Logic.{_⊎_, inl, inr, ⊎-elim}
-use mathlib.Core.List.{[], _∷_}
+use mathlib.Core.List.{List, _++_, [], _∷_}
 use Prim.Native.Nat.{ℕ, zero, suc, _+_, _*_, _-_, _/_, _%_, _^_, _<_, _≤_}
 use native.Mathlib.Nat.{add-assoc, div-add-mod', zero-div, mod-lt, mul-add-div-right, mul-add-mod-self-right, div-eq-of-lt, not-suc-le-zero, le-of-suc-le-suc, eq-or-lt-of-le}
 use native.Mathlib.Omega.{arith}
@@ -24,7 +25,7 @@ use lib.Arith.{digits-div, digits-mod}
 use lib.Dec.{ltb}
 use lib.ListN.{length, getD, length-append, List·getD-append, List·getD-eq-default}
 use lib.Pow.{high, low, shr-shr}
-use lib.Seq.{getD-at}
+use lib.Seq.{getD-append-add, getD-at}
 use Rattle.chips.proofs.GatherLaws.{gather-add, gather-lt}
 use Rattle.chips.specs.Chips.{gather, chipAt, wordAt}
 use Rattle.chips.specs.Packing.{spread, upTo, tabulate, packed}
@@ -166,3 +167,9 @@ packed-whole n f =
     let size : (8 * n + 7) / 8 ≡ n = omega arith in
     rw size (tabulate-same (λ j. gather (upTo (8 * n) f) (8 * j) 8) (λ j. gather f (8 * j) 8) n
     (λ j h. gather-same (upTo (8 * n) f) f (8 * j) (8 * j) 8 (λ k lt. upTo-within (8 * n) f (8 * j + k) (omega arith))))
+
+pub chipAt-middle : (pre t post : List ℕ) (k : ℕ) → k < 8 * length t → chipAt (pre ++ (t ++ post)) (8 * length pre + k) ≡ chipAt t k
+chipAt-middle pre t post k h =
+    let byte : (8 * length pre + k) / 8 ≡ length pre + k / 8 = omega arith in
+    let bit : (8 * length pre + k) % 8 ≡ k % 8 = omega arith in
+    rw (byte, bit, getD-append-add pre (t ++ post) (k / 8) 0, List·getD-append t post 0 (k / 8) (omega arith))

@@ -9,3 +9,4 @@ pub mod FillingLaws
 pub mod GoodRunLaws
 pub mod PouringLaws
 pub mod ReadingLaws
+pub mod TripLaws
