@@ -186,7 +186,8 @@ fn mend(s: &mut [u8], byte: usize, check: usize, distance: usize, v: u8)
     ensures { λ r. ⌜ now (s .exit) ≡ mended (now (s .entry)) byte check v ⌝ }
 {
     let old_check = wide(s[check]) * 256 + wide(s[check + 1]);
-    let Updated::Accepted(new_check) = crc::update(old_check, s[byte], v, distance) else {
+    let old = s[byte];
+    let Updated::Accepted(new_check) = crc::update(old_check, old, v, distance) else {
         return;
     };
     s[byte] = v;
@@ -201,12 +202,9 @@ pub fn set_byte(s: &mut [u8], first: usize, later: usize, t: usize, j: usize, v:
         ⌜ now (s .exit) ≡ mended (now (s .entry)) (placeIn (spans first later t) j) (checkIn (spans first later t) j) v ⌝ }
 {
     let spot = locate(first, later, t, j);
-    let distance = spot.length - 1 - spot.offset;
-    mend(
-        s,
-        spot.start + spot.offset,
-        spot.start + spot.length,
-        distance,
-        v,
-    );
+    let start = spot.start;
+    let length = spot.length;
+    let offset = spot.offset;
+    let distance = length - 1 - offset;
+    mend(s, start + offset, start + length, distance, v);
 }

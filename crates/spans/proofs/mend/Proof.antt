@@ -36,8 +36,8 @@ wide-requires-2 c κs = search needs
 add-old-check : tie.Need-add-old-check
 add-old-check c = omega (arith, c .before .before .wide .ensures, c .wide2 .ensures, c .before .before .before .slice-known2 .given (c .before .before .before .before .before .args .check), c .before .slice-known3 .given (c .before .before .before .before .before .args .check + 1))
 
-slice-read-update : tie.Need-slice-read-update
-slice-read-update c = search needs
+slice-read-old : tie.Need-slice-read-old
+slice-read-old c = search needs
 
 update-requires : tie.Need-update-requires
 update-requires c κs = search needs
@@ -92,7 +92,7 @@ mend-spec =
     slice-read-wide-2
     wide-requires-2
     add-old-check
-    slice-read-update
+    slice-read-old
     update-requires
     enum-known-new-check
     enum-told

@@ -23,27 +23,27 @@ locate-requires : tie.Need-locate-requires
 locate-requires c κs = search needs
 
 sub-distance : tie.Need-sub-distance
-sub-distance c = omega (arith, inside (c .before))
+sub-distance c = omega (arith, inside c)
 
 sub-distance-2 : tie.Need-sub-distance-2
-sub-distance-2 c = omega (arith, inside (c .before .before))
+sub-distance-2 c = omega (arith, inside c)
 
 add-mend : tie.Need-add-mend
-add-mend c = omega (arith, inside (c .before .before .before .before))
+add-mend c = omega (arith, inside (c .before))
 
 add-mend-2 : tie.Need-add-mend-2
-add-mend-2 c = omega (arith, inside (c .before .before .before .before .before))
+add-mend-2 c = omega (arith, inside (c .before))
 
 mend-requires : tie.Need-mend-requires
 mend-requires c κs =
-    let h = inside (c .before .before .before .before .before) in
+    let h = inside (c .before) in
     (omega arith, (omega arith, (omega arith, omega arith)))
 
 same-length : tie.Need-same-length
 same-length c = search needs
 
 returns : tie.Need-returns
-returns c = rw (← c .before .before .before .before .before .before .before .before .locate .ensures .0, ← c .before .before .before .before .before .before .before .before .locate .ensures .1) (c .before .before .mend .ensures)
+returns c = rw (← c .before .before .before .before .locate .ensures .0, ← c .before .before .before .before .locate .ensures .1) (c .before .before .mend .ensures)
 
 pub set-byte-spec : {M : Type 1} → statement M
 set-byte-spec =
