@@ -7,7 +7,7 @@
 --     decoded-in-range                 where buffer, start and room are right, only 1 and 6 are left to judge
 --     decoded-accepts                  accepted exactly in the case of decoded-accepted: the other direction
 --     encoded-no-room, encoded-accepted
-use mathlib.Core.Path.{_≡_, refl, ap}
+use mathlib.Core.Path.{_≡_, refl, ap, _∙_}
 use mathlib.Core.Bool.{Bool, true, false, cond}
 use mathlib.Core.List.{List, _++_}
 use Prim.Native.Nat.{ℕ, suc, _+_, _<_, _≤_}
@@ -94,29 +94,23 @@ module _ (κ : LineCode) (s : List ℕ) (start n : ℕ) (d : List ℕ) where
         rw (le-ltb roomLimit (length s) room, le-ltb (chipCount s) start (omega arith), le-ltb (chipCount s) (start + chipsIn κ n) fits, run, lt-ltb k (wordsIn κ n) h)
 
     module _ (run : goodRun (valueAt κ s start) (wordsIn κ n) ≡ wordsIn κ n) where
-      pub decoded-no-room : length d < n → decoded κ s start n d ≡ refused NoRoom d
+      -- only the room is left to judge
+      decoded-words : decoded κ s start n d ≡ cond (ltb (length d) n) (refused NoRoom d) (record { answer = Accepted; memory = decoding κ s start n ++ drop n d })
       unfolding decoded
-      decoded-no-room h =
+      decoded-words =
           rw (
             le-ltb roomLimit (length s) room,
             le-ltb (chipCount s) start (omega arith),
             le-ltb (chipCount s) (start + chipsIn κ n) fits,
             run,
             le-ltb (wordsIn κ n) (wordsIn κ n) (omega arith),
-            lt-ltb (length d) n h,
           )
 
+      pub decoded-no-room : length d < n → decoded κ s start n d ≡ refused NoRoom d
+      decoded-no-room h = decoded-words ∙ rw (lt-ltb (length d) n h)
+
       pub decoded-accepted : n ≤ length d → decoded κ s start n d ≡ record { answer = Accepted; memory = decoding κ s start n ++ drop n d }
-      unfolding decoded
-      decoded-accepted h =
-          rw (
-            le-ltb roomLimit (length s) room,
-            le-ltb (chipCount s) start (omega arith),
-            le-ltb (chipCount s) (start + chipsIn κ n) fits,
-            run,
-            le-ltb (wordsIn κ n) (wordsIn κ n) (omega arith),
-            le-ltb (length d) n h,
-          )
+      decoded-accepted h = decoded-words ∙ rw (le-ltb (length d) n h)
 
 module _ (κ : LineCode) (s d : List ℕ) where
   pub encoded-no-room : length d < sizeFor κ (length s) → encoded κ s d ≡ record { answer = written.NoRoom; memory = d }

@@ -14,6 +14,7 @@ ghost use Rattle.line.specs.declared.Code.the-variants.{ThreeOfSix};
 ghost use Rattle.line.specs.declared.Decoded.{Decoded};
 ghost use Rattle.line.specs.declared.Encoded.{Encoded};
 
+// Which code words stand for the bits.
 pub enum Code {
     Nrz,
     ThreeOfSix,
@@ -137,7 +138,7 @@ fn word_of(code: Code, x: u8) -> u8
 }
 
 // The one number whose three-of-six word y can be: among the words with the same first chip, the last four chips
-// differ. The digit of the number at place y % 16, from the right, is the guess.
+// differ. The hexadecimal digit at place y % 16, counted from the right, is the guess.
 fn guess_half(y: u8) -> u8
     ensures { λ r. ⌜ Guess (codeOf ThreeOfSix) y r ⌝ }
 {
@@ -216,7 +217,7 @@ fn fetch(s: &[u8], at: usize, w: usize) -> u8
     part(pair_at(s, at / 8), w, 16 - at % 8 - w)
 }
 
-// The one word at chip `at`.
+// The one word at chip `at`. The refusals in their order: 10, 1, 6.
 pub fn word_at(code: Code, s: &[u8], at: usize) -> Word
     ensures { λ r. ⌜ r ≡ wordRead (codeOf code) (now (s .entry)) at ⌝ }
 {
@@ -288,7 +289,8 @@ fn copy(room: &[u8], n: usize, out: &mut [u8])
     }
 }
 
-// Decodes n bytes from chip `start` of `s` on into the first n bytes of `out`.
+// Decodes n bytes from chip `start` of `s` on into the first n bytes of `out`. The refusals in their order: 10, 1, 6, 4.
+// More bytes than any buffer holds are refused before anything is multiplied. `out` is written on acceptance only (D14).
 pub fn decode(code: Code, s: &[u8], start: usize, n: usize, out: &mut [u8]) -> Decoded
     ensures { λ r. ⌜ _≡_ {A = Outcome Decoded} (record { answer = r; memory = now (out .exit) }) (decoded (codeOf code) (now (s .entry)) start n (now (out .entry))) ⌝ }
 {
@@ -306,7 +308,7 @@ pub fn decode(code: Code, s: &[u8], start: usize, n: usize, out: &mut [u8]) -> D
     if count - start < words * width(code) {
         return Decoded::Short;
     }
-    let mut room = [0u8; 1024];
+    let mut room = [0u8; ROOM];
     let good = fill(code, s, start, n, &mut room);
     if good < words {
         return Decoded::BadWord(good);
@@ -350,7 +352,8 @@ fn coded(code: Code, s: &[u8], i: usize) -> u32
     chips
 }
 
-// Writes the code words of `s` into the first `size` bytes of `out`, eight chips at a time.
+// Writes the code words of `s` into the first `size` bytes of `out`, eight chips at a time. `held` has `count` chips that
+// are not written yet; where fewer than eight are left, the chips of the next byte are taken in.
 fn pour(code: Code, s: &[u8], size: usize, out: &mut [u8])
     requires { ⌜ (size ≡ sizeFor (codeOf code) (length (now s))) × (size ≤ length (now out)) ⌝ }
     ensures { λ _. ⌜ now (out .exit) ≡ encoding (codeOf code) (now (s .entry)) ++ drop size (now (out .entry)) ⌝ }
@@ -373,7 +376,8 @@ fn pour(code: Code, s: &[u8], size: usize, out: &mut [u8])
     }
 }
 
-// Writes the code words of `s` into `out`, from its first byte on.
+// Writes the code words of `s` into `out`, from its first byte on; refusal 4. `s` may have any length: the sizes are
+// compared without a sum that could wrap.
 pub fn encode(code: Code, s: &[u8], out: &mut [u8]) -> Encoded
     ensures { λ r. ⌜ _≡_ {A = Outcome Encoded} (record { answer = r; memory = now (out .exit) }) (encoded (codeOf code) (now (s .entry)) (now (out .entry))) ⌝ }
 {
