@@ -5,15 +5,29 @@ use mathlib.Core.Bool.{Bool, true, false, cond}
 use Prim.Native.Nat.{ℕ, _+_, _≤_}
 use native.Mathlib.Omega.{arith}
 use lib.ListN.{length, length-append}
-use Rattle.header.specs.Layout.{ciOf, addressed, secured, receiverPlace, sessionPlace, lengthOf, receiverBytes, sessionBytes, receiverPart, sessionPart, headerBytes}
+use Rattle.header.specs.Layout.{ciOf, addressed, secured, sessionPlace, lengthOf, receiverBytes, sessionBytes, receiverPart, sessionPart, headerBytes}
 use Rattle.header.specs.declared.Header.{Header}
 use Rattle.header.specs.declared.Kind.{Kind}
 
-pub sessionPlace-addressed : (k : Kind) → addressed k ≡ true → sessionPlace k ≡ receiverPlace + 8
-sessionPlace-addressed k e = rw e
+module _ (k : Kind) where
+  pub sessionPlace-addressed : addressed k ≡ true → sessionPlace k ≡ 11
+  sessionPlace-addressed e = rw e
 
-pub lengthOf-secured : (k : Kind) → secured k ≡ true → lengthOf k ≡ sessionPlace k + 6
-lengthOf-secured k e = rw e
+  pub sessionPlace-bare : addressed k ≡ false → sessionPlace k ≡ 3
+  sessionPlace-bare e = rw e
+
+  pub lengthOf-secured : secured k ≡ true → lengthOf k ≡ sessionPlace k + 6
+  lengthOf-secured e = rw e
+
+  pub lengthOf-bare : secured k ≡ false → lengthOf k ≡ sessionPlace k
+  lengthOf-bare e = rw e (omega arith)
+
+  pub sessionPlace-small : sessionPlace k ≤ 11
+  sessionPlace-small = small (addressed k)
+    where
+      small : (b : Bool) → 3 + cond b 8 0 ≤ 11
+      small true = omega arith
+      small false = omega arith
 
 -- what comes before the session's fields is part of the header
 pub sessionPlace-le : (k : Kind) → sessionPlace k ≤ lengthOf k

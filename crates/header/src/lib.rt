@@ -128,24 +128,15 @@ fn has_session(kind: Kind) -> bool
 fn session_place(kind: Kind) -> usize
     ensures { λ r. ⌜ r ≡ sessionPlace kind ⌝ }
 {
-    match kind {
-        Kind::Plain => 3,
-        Kind::Secured => 3,
-        Kind::Addressed => 11,
-        Kind::AddressedSecured => 11,
-    }
+    if has_receiver(kind) { 11 } else { 3 }
 }
 
 // The bytes of a header, CI among them (Table 43).
 fn length_of(kind: Kind) -> usize
     ensures { λ r. ⌜ r ≡ lengthOf kind ⌝ }
 {
-    match kind {
-        Kind::Plain => 3,
-        Kind::Secured => 9,
-        Kind::Addressed => 11,
-        Kind::AddressedSecured => 17,
-    }
+    let at = session_place(kind);
+    if has_session(kind) { at + 6 } else { at }
 }
 
 // Numbers are sent with the least significant byte first (13.2.1).

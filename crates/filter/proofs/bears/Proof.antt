@@ -31,15 +31,20 @@ add-if1 c = search needs
 shared-slice-read-if1 : tie.Need-shared-slice-read-if1 Inv-loop μ-loop
 shared-slice-read-if1 c = search needs
 
+-- in a turn both have a byte at i
+in-reach : (c : tie.At-loop Inv-loop μ-loop) → c .loop .i < 8
+    → (c .loop .i < length (c .before .args .t1)) × (c .loop .i < length (nameOf (now (c .before .args .content))))
+in-reach c h =
+    (omega (arith, c .before .good .0 .1 .0 .1), omega (arith, length-nameOf (now (c .before .args .content)) (c .before .pre)))
+
 returns : tie.Need-returns Inv-loop μ-loop
 returns c =
     let at = c .before .before .before in
-    let s : List ℕ = now (at .before .args .content) in
-    let a : List ℕ = at .before .args .t1 in
-    let i : ℕ = at .loop .i in
-    let p : i < length a = omega (arith, at .before .good .0 .1 .0 .1) in
-    let q : i < length (nameOf s) = omega (arith, length-nameOf s (at .before .pre)) in
-    sym (sym (at .loop .inv .1) ∙ sameBytes-off a (nameOf s) i p q (λ e. c .if1 .taken (e ∙ nameOf-at s i (omega arith))))
+    let i = at .loop .i in
+    let s = now (at .before .args .content) in
+    let near = in-reach at (omega arith) in
+    sym (sym (at .loop .inv .1)
+    ∙ sameBytes-off (at .before .args .t1) (nameOf s) i (near .0) (near .1) (λ e. c .if1 .taken (e ∙ nameOf-at s i (omega arith))))
 
 add-i : tie.Need-add-i Inv-loop μ-loop
 add-i c = search needs
@@ -50,12 +55,12 @@ loop-less c = search needs
 loop-again : tie.Need-loop-again Inv-loop μ-loop
 loop-again c =
     let at = c .before .before .before in
-    let s : List ℕ = now (at .before .args .content) in
-    let a : List ℕ = at .before .args .t1 in
-    let i : ℕ = at .loop .i in
-    let p : i < length a = omega (arith, at .before .good .0 .1 .0 .1) in
-    let q : i < length (nameOf s) = omega (arith, length-nameOf s (at .before .pre)) in
-    (omega arith, sameBytes-on a (nameOf s) i p q (c .if1 .left ∙ sym (nameOf-at s i (omega arith))) ∙ at .loop .inv .1)
+    let i = at .loop .i in
+    let s = now (at .before .args .content) in
+    let near = in-reach at (omega arith) in (
+      omega arith,
+      sameBytes-on (at .before .args .t1) (nameOf s) i (near .0) (near .1) (c .if1 .left ∙ sym (nameOf-at s i (omega arith))) ∙ at .loop .inv .1,
+    )
 
 returns-2 : tie.Need-returns-2 Inv-loop μ-loop
 returns-2 c =

@@ -1,35 +1,22 @@
--- `header::session_place` meets its contract: in each arm the kind is known, and the definition computes. Assumes nothing.
-use mathlib.Core.Path.{ap, sym}
+-- `header::session_place` meets its contract: the test is the definition's own. Assumes nothing.
+use mathlib.Core.Path.{_∙_, sym}
+use Rattle.header.proofs.LayoutLaws.{sessionPlace-addressed, sessionPlace-bare}
 use borrow.Author.Needs.{needs}
-use Rattle.header.specs.Layout.{sessionPlace}
 use Rattle.header.proofs.session_place.Statement.{statement}
 use Rattle.header.proofs.session_place.Tie as tie
 
-enum-told : tie.Need-enum-told
-enum-told c = search needs
+has-receiver-requires : tie.Need-has-receiver-requires
+has-receiver-requires c κs = search needs
 
 returns : tie.Need-returns
-returns c = ap sessionPlace (sym (c .enum-told .given .1))
-
-enum-told-2 : tie.Need-enum-told-2
-enum-told-2 c = search needs
+returns c =
+    let d = c .before in
+    sym (sessionPlace-addressed (d .before .args .kind) (sym (d .has-receiver .ensures) ∙ c .if1 .taken))
 
 returns-2 : tie.Need-returns-2
-returns-2 c = ap sessionPlace (sym (c .enum-told2 .given .1))
-
-enum-told-3 : tie.Need-enum-told-3
-enum-told-3 c = search needs
-
-returns-3 : tie.Need-returns-3
-returns-3 c = ap sessionPlace (sym (c .enum-told3 .given .1))
-
-enum-told-4 : tie.Need-enum-told-4
-enum-told-4 c = search needs
-
-returns-4 : tie.Need-returns-4
-returns-4 c = ap sessionPlace (sym (c .enum-told4 .given .1))
+returns-2 c =
+    let d = c .before in
+    sym (sessionPlace-bare (d .before .args .kind) (sym (d .has-receiver .ensures) ∙ c .if1 .left))
 
 pub session-place-spec : {M : Type 1} → statement M
-session-place-spec =
-    tie.close
-    (tie.spec enum-told enum-told-2 enum-told-3 enum-told-4 returns returns-2 returns-3 returns-4)
+session-place-spec = tie.close (tie.spec has-receiver-requires returns returns-2)
