@@ -1,2 +1,4 @@
 pub mod CodedLaws
+pub mod PutLaws
+pub mod SendLaws
 pub mod SizeLaws

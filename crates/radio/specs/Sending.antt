@@ -1,10 +1,11 @@
 -- Sending a frame in chips (document 01, "Sync search": sync chips, then the frame; unused chips of the last byte are 0,
 -- bytes after it stay; "Answer numbers": writing 5, 4).
---     sentOf k c          the bytes that hold the chips of kind k for the content c
---     sentSize k n        how many bytes they are, for n bytes of content
---     sentChips k n       how many chips they are, the unused ones of the last byte not counted
---     sendingOf k c d     BadContent if c is too short or too long for k's format; NoRoom if the lent d is shorter than
---                         what is sent; else d begins with it
+--     airOf k p           the bytes that hold the chips of kind k for the frame p: the sync chips, then p in the line code
+--     airSize k z         how many bytes they are, for a frame of z bytes
+--     putting k p d       NoRoom if the lent d is shorter than these bytes; else d begins with them
+--     sendingOf k c d     BadContent if c is too short or too long for k's format; else its frame is put
+--     sentOf k c          the bytes that sending the content c as kind k writes
+--     sentChips k n       how many chips they are for n bytes of content, the unused ones of the last byte not counted
 --     SentAt k s place c  the chips of s from `place` on are those that sending c as kind k writes
 --     numberOf            document 01's number of each answer
 -- SentAt says nothing of how chips are received: "accepted exactly when" is measured by it.
@@ -25,22 +26,28 @@ use Rattle.sync.specs.Kinds.{syncBytes, leadOf}
 use Rattle.radio.specs.declared.Sent.{Sent}
 use Rattle.radio.specs.Kinds.{lineOf, formatOf}
 
-unfoldable pub sentOf : Kind → List ℕ → List ℕ
-sentOf k c = syncBytes k ++ encoding (lineOf k) (frameOf (formatOf k) c)
+unfoldable pub airOf : Kind → List ℕ → List ℕ
+airOf k p = syncBytes k ++ encoding (lineOf k) p
 
-unfoldable pub sentSize : Kind → ℕ → ℕ
-sentSize k n = length (syncBytes k) + sizeFor (lineOf k) (frameSize (formatOf k) n)
+abbrev pub airSize : Kind → ℕ → ℕ
+airSize k z = length (syncBytes k) + sizeFor (lineOf k) z
 
-unfoldable pub sentChips : Kind → ℕ → ℕ
-sentChips k n = leadOf k + chipsIn (lineOf k) (frameSize (formatOf k) n)
+unfoldable pub putting : Kind → List ℕ → List ℕ → Outcome Sent
+putting k p d =
+    cond (ltb (length d) (airSize k (length p))) (record { answer = Sent.NoRoom; memory = d })
+    (record { answer = Sent.Accepted (airSize k (length p)); memory = airOf k p ++ drop (airSize k (length p)) d })
 
 unfoldable pub sendingOf : Kind → List ℕ → List ℕ → Outcome Sent
 sendingOf k c d =
     cond (within (formOf (formatOf k) .shortest) (formOf (formatOf k) .longest) (length c))
-    (cond (ltb (length d) (sentSize k (length c)))
-    (record { answer = Sent.NoRoom; memory = d })
-    (record { answer = Sent.Accepted (sentSize k (length c)); memory = sentOf k c ++ drop (sentSize k (length c)) d }))
+    (putting k (frameOf (formatOf k) c) d)
     (record { answer = Sent.BadContent; memory = d })
+
+abbrev pub sentOf : Kind → List ℕ → List ℕ
+sentOf k c = airOf k (frameOf (formatOf k) c)
+
+unfoldable pub sentChips : Kind → ℕ → ℕ
+sentChips k n = leadOf k + chipsIn (lineOf k) (frameSize (formatOf k) n)
 
 pub record SentAt (k : Kind) (s : List ℕ) (place : ℕ) (c : List ℕ) : Type 0 where
   -- c is a content of bytes, neither too short nor too long for k's format

@@ -1,16 +1,17 @@
 // Frames in chips: receive and send (EN 13757-4:2019, 6.4, 7.4.2, 9.4; document 01, "Sync search", "Answer numbers").
 ghost use mathlib.Core.Path.{_≡_};
 ghost use mathlib.Core.Bool.{cond};
-ghost use mathlib.Core.List.{_++_};
+ghost use mathlib.Core.List.{_++_, _∷_};
 ghost use Prim.Native.Nat.{_+_, _*_, _≤_};
-ghost use lib.ListN.{length, drop};
+ghost use lib.ListN.{length, take, drop};
 ghost use lib.Dec.{ltb};
 ghost use Rattle.ground.specs.Outcome.{Outcome};
 ghost use Rattle.chips.specs.Chips.{chipCount, roomLimit};
+ghost use Rattle.line.specs.Encoding.{encoded};
 ghost use Rattle.sync.specs.Kinds.{leadOf, syncBytes};
 ghost use Rattle.radio.specs.Kinds.{codeFor, formatOf, lineOf};
 ghost use Rattle.radio.specs.Receiving.{answerOf, frameAfter, bySize, receptionOf, manchesterOf};
-ghost use Rattle.radio.specs.Sending.{sendingOf};
+ghost use Rattle.radio.specs.Sending.{sendingOf, putting};
 ghost use Rattle.frame.specs.declared.FrameSize.{FrameSize};
 use frame::Format;
 use frame::FrameSize;
@@ -198,4 +199,77 @@ pub fn receive_manchester(s: &[u8], start: usize, out: &mut [u8]) -> Reception
         return Reception::OutOfRange;
     }
     frame_after(Kind::ManchesterWithA, start, 0, s, out)
+}
+
+// The sync chips of mode T, from the first byte on.
+fn put_word(out: &mut [u8])
+    requires { ⌜ 2 ≤ length (now out) ⌝ }
+    ensures { λ _. ⌜ now (out .exit) ≡ 0x54 ∷ 0x3D ∷ drop 2 (now (out .entry)) ⌝ }
+{
+    out[0] = 0x54;
+    out[1] = 0x3D;
+}
+
+// The sync chips of mode C, whose last eight tell the format.
+fn put_words(last: u8, out: &mut [u8])
+    requires { ⌜ 4 ≤ length (now out) ⌝ }
+    ensures { λ _. ⌜ now (out .exit) ≡ 0x54 ∷ 0x3D ∷ 0x54 ∷ last ∷ drop 4 (now (out .entry)) ⌝ }
+{
+    out[0] = 0x54;
+    out[1] = 0x3D;
+    out[2] = 0x54;
+    out[3] = last;
+}
+
+// The sync chips of a kind.
+fn put_sync(kind: Kind, out: &mut [u8])
+    requires { ⌜ length (syncBytes kind) ≤ length (now out) ⌝ }
+    ensures { λ _. ⌜ now (out .exit) ≡ syncBytes kind ++ drop (length (syncBytes kind)) (now (out .entry)) ⌝ }
+{
+    match kind {
+        Kind::TWithA => put_word(out),
+        Kind::CWithA => put_words(0xCD, out),
+        Kind::CWithB => put_words(0x3D, out),
+        Kind::ManchesterWithA => {}
+    }
+}
+
+// The chips of p from byte `start` of the lent memory on.
+fn code_behind(kind: Kind, p: &[u8], start: usize, out: &mut [u8]) -> Encoded
+    requires { ⌜ start ≤ length (now out) ⌝ }
+    ensures { λ r.
+        ⌜ _≡_ {A = Outcome Encoded} (record { answer = r; memory = now (out .exit) }) (record { answer = encoded (lineOf kind) (now (p .entry)) (drop start (now (out .entry))) .answer; memory = take start (now (out .entry)) ++ encoded (lineOf kind) (now (p .entry)) (drop start (now (out .entry))) .memory }) ⌝ }
+{
+    line::encode(code_of(kind), p, &mut out[start..])
+}
+
+// The frame p as chips behind its sync chips. The line code judges the room, so that nothing is written too early.
+fn put(kind: Kind, p: &[u8], out: &mut [u8]) -> Sent
+    ensures { λ r.
+        ⌜ _≡_ {A = Outcome Sent} (record { answer = r; memory = now (out .exit) }) (putting kind (now (p .entry)) (now (out .entry))) ⌝ }
+{
+    let start = lead(kind) / 8;
+    if out.len() < start {
+        return Sent::NoRoom;
+    }
+    match code_behind(kind, p, start, out) {
+        Encoded::Accepted(size) => {
+            put_sync(kind, out);
+            Sent::Accepted(start + size)
+        }
+        Encoded::NoRoom => Sent::NoRoom,
+    }
+}
+
+// The content as a frame in chips.
+pub fn send(kind: Kind, content: &[u8], out: &mut [u8]) -> Sent
+    ensures { λ r.
+        ⌜ _≡_ {A = Outcome Sent} (record { answer = r; memory = now (out .exit) }) (sendingOf kind (now (content .entry)) (now (out .entry))) ⌝ }
+{
+    let mut bytes = [0u8; FRAME];
+    match frame::write(format_of(kind), content, &mut bytes) {
+        Written::Accepted(size) => put(kind, &bytes[..size], out),
+        Written::NoRoom => Sent::NoRoom,
+        Written::BadContent => Sent::BadContent,
+    }
 }

@@ -1,0 +1,41 @@
+-- The part that is lent to the line code reaches to the end, so that nothing but it changes.
+use mathlib.Core.Path.{ap}
+use Rattle.line.specs.Codes.{codeOf}
+use Rattle.radio.specs.Kinds.{lineOf}
+use Rattle.radio.proofs.PutLaws.{behind-part}
+use borrow.Author.Needs.{needs}
+use Rattle.radio.proofs.code_behind.Statement.{statement}
+use Rattle.radio.proofs.code_behind.Tie as tie
+
+code-of-requires : tie.Need-code-of-requires
+code-of-requires c κs = search needs
+
+sub-encode : tie.Need-sub-encode
+sub-encode c = search needs
+
+part-encode-start : tie.Need-part-encode-start
+part-encode-start c = search needs
+
+part-encode-end : tie.Need-part-encode-end
+part-encode-end c = search needs
+
+encode-requires : tie.Need-encode-requires
+encode-requires c κs = search needs
+
+same-length : tie.Need-same-length
+same-length c = search needs
+
+returns : tie.Need-returns
+returns c = behind-part (c .before .before .before .before .code-of .result) (lineOf (c .before .before .before .before .before .before .before .args .kind)) (c .before .before .before .before .before .before .before .args .p .now) (c .before .before .before .before .before .before .before .args .out .now) (c .before .before .before .before .before .before .before .args .start) (c .before .before .encode .result) (c .before .before .encode .last .1 .1 .0) (c .before .before .before .before .before .before .before .pre) (ap codeOf (c .before .before .before .before .code-of .ensures)) (c .before .before .encode .ensures)
+
+pub code-behind-spec : {M : Type 1} → statement M
+code-behind-spec =
+    tie.close
+    (tie.spec
+    code-of-requires
+    sub-encode
+    part-encode-start
+    part-encode-end
+    encode-requires
+    same-length
+    returns)
