@@ -10,6 +10,7 @@ use native.Mathlib.Omega.{arith}
 use borrow.Author.Tests.{ltb-false}
 use lib.Dec.{ltb}
 use lib.ListN.{length, take, drop, getD, length-append, length-take, take-append-drop}
+use Rattle.ground.proofs.CaseLaws.{clash}
 use Rattle.spans.specs.declared.Checks.{Checks}
 use Rattle.spans.specs.declared.Checks.the-variants.{Right, Wrong}
 use Rattle.spans.specs.Spans.{framed, payload, firstWrong}
@@ -85,13 +86,7 @@ by-size f s l z n (FrameSize.Bytes y m) e h =
       fits = omega (arith, ltb-false (length s) y (p .0), p .1 .1 .0);
       right = rw (p .1 .1 .1) at (p .1 .0);
     }
-by-size f s l z n FrameSize.BadLength e h = absurd (no h)
-  where
-    no : Judged.BadLength ≡ Judged.Accepted z n → ⊥
-    no h = let one : _≡_ {A = ℕ} 0 1 = cc in omega arith
-
-no-frame : (z n : ℕ) → Judged.Short ≡ Judged.Accepted z n → ⊥
-no-frame z n h = let one : _≡_ {A = ℕ} 0 1 = cc in omega arith
+by-size f s l z n FrameSize.BadLength e h = absurd (clash (cc))
 
 -- the accepted content is the one whose frame stands there
 pub frameOf-length : (f : Format) (c : List ℕ) (n : ℕ) → length c ≡ n → frameOf f c ≡ framed (spansOf f n) (formOf f .lengthByte n ∷ c)
@@ -125,7 +120,7 @@ begun f l s z n w =
 
 pub accepted : (f : Format) (s : List ℕ) (z n : ℕ) → judgeOf f s ≡ Judged.Accepted z n → (length (contentIn f n s) ≡ n) × FrameAt f s z (contentIn f n s)
 unfolding judgeOf
-accepted f [] z n h = absurd (no-frame z n h)
+accepted f [] z n h = absurd (clash (cc))
 accepted f (l ∷ s) z n h = begun f l s z n (by-size f (l ∷ s) l z n (sizeFor f l) refl h)
 
 pub accepted-fits : (f : Format) (s : List ℕ) (z n : ℕ) → judgeOf f s ≡ Judged.Accepted z n → (z ≡ frameSize f n) × (z ≤ length s)
@@ -144,12 +139,12 @@ frame-unique f s z y c d p q =
 -- what an accepted buffer holds, as the walks over spans want it
 pub accepted-right : (f : Format) (s : List ℕ) (z n : ℕ) → judgeOf f s ≡ Judged.Accepted z n → firstWrong 1 (spansOf f n) s ≡ Right
 unfolding judgeOf
-accepted-right f [] z n h = absurd (no-frame z n h)
+accepted-right f [] z n h = absurd (clash (cc))
 accepted-right f (l ∷ s) z n h = by-size f (l ∷ s) l z n (sizeFor f l) refl h .right
 
 pub accepted-payload : (f : Format) (s : List ℕ) (z n : ℕ) → judgeOf f s ≡ Judged.Accepted z n → payload (spansOf f n) s ≡ formOf f .lengthByte n ∷ contentIn f n s
 unfolding judgeOf
-accepted-payload f [] z n h = absurd (no-frame z n h)
+accepted-payload f [] z n h = absurd (clash (cc))
 accepted-payload f (l ∷ s) z n h =
     let p = sizeFor-bytes f l z n (by-size f (l ∷ s) l z n (sizeFor f l) refl h .sized) in
     let byte : formOf f .lengthByte n ≡ l = rw (p .content) at (length-there f l (p .allowed) .0) in

@@ -11,9 +11,9 @@ use Prim.Native.Nat.{ℕ, zero, suc, _+_, _-_, _*_, _/_, _≤_, _<_, min}
 use native.Mathlib.Omega.{arith}
 use borrow.Author.Tests.{le-leb, leb-true, eqb-true}
 use lib.Dec.{T, leb, eqb}
+use Rattle.ground.proofs.CaseLaws.{and-left, and-right}
 use Rattle.ground.proofs.TableLaws.{allBelow, below-at}
 use Rattle.spans.specs.Spans.{sizeOf, cut, spans}
-use Rattle.spans.proofs.SealLaws.{and-left, and-right}
 use Rattle.spans.proofs.TurnLaws.{sizeOf-turn}
 use Rattle.frame.specs.declared.Format.{Format}
 use Rattle.frame.specs.declared.Format.the-variants.{A, B}

@@ -2,8 +2,8 @@
 use mathlib.Core.Bool.{Bool, true, false, cond}
 use mathlib.Core.List.{List, [], _∷_}
 use mathlib.Core.Path.{_≡_, refl, ap, sym, _∙_}
-use Prim.Native.Nat.{ℕ, suc, _≤_, _<_}
-use native.Mathlib.Omega.{arith}
+use Prim.Native.Nat.{ℕ, _≤_, _<_}
+use native.Mathlib.Nat.{suc-ne-zero, not-suc-le-zero}
 use borrow.Author.Tests.{lt-ltb, le-ltb}
 use lib.ListN.{length, getD}
 use Rattle.spans.specs.Spans.{firstWrong}
@@ -39,20 +39,14 @@ sizeFor-high f l z n h =
     let p = sizeFor-bytes f l z n h in
     rw (p .content) at (length-there f l (p .allowed) .1 .1)
 
-no-length : (n : ℕ) → suc n ≡ 0 → ⊥
-no-length n h = omega arith
-
-no-byte : 0 < 0 → ⊥
-no-byte h = omega arith
-
 pub judgeOf-empty : (f : Format) (s : List ℕ) → length s ≡ 0 → judgeOf f s ≡ Judged.Short
 unfolding judgeOf
 judgeOf-empty f [] h = refl
-judgeOf-empty f (l ∷ s) h = absurd (no-length (length s) h)
+judgeOf-empty f (l ∷ s) h = absurd (suc-ne-zero (length s) h)
 
 pub judgeOf-some : (f : Format) (s : List ℕ) → 0 < length s → judgeOf f s ≡ bySize f s (sizeFor f (getD s 0 0))
 unfolding judgeOf
-judgeOf-some f [] h = absurd (no-byte h)
+judgeOf-some f [] h = absurd (not-suc-le-zero h)
 judgeOf-some f (l ∷ s) h = refl
 
 module _ (f : Format) (s : List ℕ) (some : 0 < length s) where

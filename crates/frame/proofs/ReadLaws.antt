@@ -9,6 +9,7 @@ use native.Mathlib.Omega.{arith}
 use borrow.Author.Tests.{lt-ltb, le-ltb, ltb-false}
 use lib.Dec.{ltb}
 use lib.ListN.{length, drop}
+use Rattle.ground.proofs.CaseLaws.{clash}
 use Rattle.ground.specs.Outcome.{Outcome}
 use Rattle.frame.specs.declared.Format.{Format}
 use Rattle.frame.specs.declared.Judged.{Judged}
@@ -61,18 +62,9 @@ handed f s d z n (Judged.Accepted y m) e h =
       room = room;
       memory = sym (ap (λ (o : Outcome Reading). o .memory) (reading-accepted f s d z n (sym q) room));
     }
-handed f s d z n Judged.Short e h = absurd (no h)
-  where
-    no : Reading.Short ≡ Reading.Accepted z n → ⊥
-    no h = let one : _≡_ {A = ℕ} 0 1 = cc in omega arith
-handed f s d z n Judged.BadLength e h = absurd (no h)
-  where
-    no : Reading.BadLength ≡ Reading.Accepted z n → ⊥
-    no h = let one : _≡_ {A = ℕ} 0 1 = cc in omega arith
-handed f s d z n (Judged.WrongCheck b) e h = absurd (no h)
-  where
-    no : Reading.WrongCheck b ≡ Reading.Accepted z n → ⊥
-    no h = let one : _≡_ {A = ℕ} 0 1 = cc in omega arith
+handed f s d z n Judged.Short e h = absurd (clash (cc))
+handed f s d z n Judged.BadLength e h = absurd (clash (cc))
+handed f s d z n (Judged.WrongCheck b) e h = absurd (clash (cc))
 
 pub read-accepted : (f : Format) (s d : List ℕ) (z n : ℕ) → readingOf f s d .answer ≡ Reading.Accepted z n → Handed f s d z n (contentIn f n s)
 unfolding readingOf

@@ -4,3 +4,5 @@ pub mod XorLaws
 pub mod TableLaws
 pub mod StoresLaws
 pub mod FrontLaws
+pub mod CaseLaws
+pub mod BehindLaws

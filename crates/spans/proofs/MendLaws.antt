@@ -4,12 +4,13 @@ use mathlib.Core.Bool.{Bool, true, false}
 use mathlib.Core.List.{List, [], _∷_, _++_, append-assoc}
 use mathlib.Core.Path.{_≡_, refl, ap, sym, _∙_}
 use Prim.Native.Nat.{ℕ, suc, _+_, _-_, _/_, _%_, _≤_, _<_}
-use native.Mathlib.Nat.{zero-add, suc-add}
+use native.Mathlib.Nat.{not-suc-le-zero}
 use native.Mathlib.Omega.{arith}
 use borrow.Author.Tests.{ltb-true, ltb-false}
 use lib.Dec.{ltb}
 use lib.ListN.{length, take, drop, getD, set, length-append, length-set, length-drop, take-append-drop, List·getD-append}
 use lib.Seq.{split-at, set-split, set-at, set-append-left, getD-append-add, take-at, drop-at, drop-drop, length-take-le, getD-set-same, getD-set-other}
+use Rattle.ground.proofs.BehindLaws.{set-append-add}
 use Rattle.crc.specs.Check.{checkOf}
 use Rattle.crc.specs.CheckUpdate.{updating}
 use Rattle.crc.proofs.UpdateLaws.{updating-mends}
@@ -51,11 +52,6 @@ module _ (q r : List ℕ) (j v : ℕ) (there : j < length q) (near : length q �
       = set-at (set q j v ++ (u / 256 ∷ [])) (checkOf q % 256) r (u % 256) (length q + 1) (length-append (set q j v) (u / 256 ∷ []) ∙ ap (λ (n : ℕ). n + 1) e) in
       rw (updatedAt-sealed, sealed-append q r, left, high, ← append-assoc (set q j v) (u / 256 ∷ []) (checkOf q % 256 ∷ r), low, sealed-append (set q j v) r)
       (append-assoc (set q j v) (u / 256 ∷ []) (u % 256 ∷ r))
-
--- a store behind a front part
-pub set-append-add : (xs ys : List ℕ) (n a : ℕ) → set (xs ++ ys) (length xs + n) a ≡ xs ++ set ys n a
-set-append-add [] ys n a = rw (zero-add n)
-set-append-add (x ∷ xs) ys n a = rw (suc-add (length xs) n) (ap (λ (l : List ℕ). x ∷ l) (set-append-add xs ys n a))
 
 -- a byte behind a front part: mending leaves that part alone and does not look at it
 pub mended-behind : (b r : List ℕ) (p q v : ℕ) → mended (b ++ r) (length b + p) (length b + q) v ≡ b ++ mended r p q v
@@ -100,13 +96,10 @@ mended-by k q r ks s j v false e w near h right rest =
     rw (h, ← e, ← w)
     (mended-later q r ks j v (placeIn ks (j - length q)) (checkIn ks (j - length q)) (omega arith) (rw e (rest far)))
 
-no-byte : (j : ℕ) → j < 0 → ⊥
-no-byte j h = omega arith
-
 -- THE law of changing: where all checks are right, mending is writing the changed payload afresh
 pub mended-framed : (b : ℕ) (ks s : List ℕ) (j v : ℕ) → sizeOf ks ≤ length s → firstWrong b ks s ≡ Right → j < total ks → widest ks ≤ 126 → mended s (placeIn ks j) (checkIn ks j) v ≡ framed ks (set (payload ks s) j v) ++ drop (sizeOf ks) s
 unfolding firstWrong sizeOf total widest
-mended-framed b [] s j v fits right there near = absurd (no-byte j there)
+mended-framed b [] s j v fits right there near = absurd (not-suc-le-zero there)
 mended-framed b (k ∷ ks) s j v fits right there near =
     let ok : blockOk k s ≡ true = firstWrong-head (blockOk k s) b (firstWrong (b + 1) ks (drop (k + 2) s)) right in
     let rest : firstWrong (b + 1) ks (drop (k + 2) s) ≡ Right = firstWrong-tail (blockOk k s) b (firstWrong (b + 1) ks (drop (k + 2) s)) right in

@@ -4,6 +4,7 @@ use mathlib.Core.Bool.{Bool, true, false}
 use mathlib.Core.List.{List, [], _∷_}
 use mathlib.Core.Path.{_≡_, refl}
 use Prim.Native.Nat.{ℕ, zero, suc, _+_, _-_, _≤_, _<_, min, max}
+use native.Mathlib.Nat.{not-suc-le-zero}
 use native.Mathlib.Omega.{arith}
 use borrow.Author.Tests.{lt-ltb, le-ltb, ltb-true, ltb-false}
 use lib.Dec.{ltb}
@@ -31,12 +32,9 @@ placed-by k ks j false e rest =
     let r = rest (ltb-false j k e) in
     record { before = rw e (omega arith); inside = rw e (omega arith); near = rw e (omega arith) }
 
-no-byte : (j : ℕ) → j < 0 → ⊥
-no-byte j h = omega arith
-
 pub placed : (ks : List ℕ) (j : ℕ) → j < total ks → Placed ks j
 unfolding total
-placed [] j h = absurd (no-byte j h)
+placed [] j h = absurd (not-suc-le-zero h)
 placed (k ∷ ks) j h = placed-by k ks j (ltb j k) refl (λ le. placed ks (j - k) (omega arith))
 
 widest-cut : (w steps most later left : ℕ) → most ≤ w → later ≤ w → widest (cut steps most later left) ≤ w

@@ -1,5 +1,5 @@
 -- One span and its check: what stands where, and that a right check is what sealing writes.
-use mathlib.Core.Bool.{Bool, true, false, _&&_}
+use mathlib.Core.Bool.{true, false}
 use mathlib.Core.List.{List, [], _∷_, _++_, append-assoc}
 use mathlib.Core.Path.{_≡_, refl, ap, _∙_}
 use Prim.Native.Nat.{ℕ, suc, _+_, _≤_, _/_, _%_}
@@ -9,6 +9,7 @@ use borrow.Author.Tests.{eq-eqb, ne-eqb, eqb-true}
 use lib.Dec.{eqb}
 use lib.ListN.{length, take, drop, getD, length-append}
 use lib.Seq.{take-at, drop-at, getD-at, getD-drop, take-suc}
+use Rattle.ground.proofs.CaseLaws.{and-left, and-right}
 use Rattle.crc.specs.Check.{checkOf}
 use Rattle.spans.specs.Spans.{sealed, blockOk}
 
@@ -39,15 +40,6 @@ module _ (q t : List ℕ) (k : ℕ) (e : length q ≡ k) where
   pub blockOk-sealed : blockOk k (sealed q ++ t) ≡ true
   unfolding blockOk
   blockOk-sealed = rw (take-sealed, getD-sealed-high, getD-sealed-low, eq-eqb (checkOf q / 256) (checkOf q / 256) refl, eq-eqb (checkOf q % 256) (checkOf q % 256) refl)
-
--- both tests of an && that holds
-pub and-left : (a b : Bool) → a && b ≡ true → a ≡ true
-and-left true b h = refl
-and-left false b h = h
-
-pub and-right : (a b : Bool) → a && b ≡ true → b ≡ true
-and-right true b h = h
-and-right false b h = cc
 
 module _ (k : ℕ) (s : List ℕ) (ok : blockOk k s ≡ true) where
   pub blockOk-high : getD s k 0 ≡ checkOf (take k s) / 256

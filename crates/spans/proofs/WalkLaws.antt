@@ -1,41 +1,41 @@
 -- What a walk still has to do, as one list: a turn leaves it as it was, so that it is each loop's invariant.
---     written d at ks p     d, of which `at` bytes are done, once the bytes p are written to it in spans of ks
---     copied d done ks s    d, of which `done` bytes are done, once the payload of s is copied to it
+--     filled d at xs n    d, of which `at` bytes are done, once the n bytes xs stand behind them
+-- And one block in its place: its check stored, its bytes copied first, or its first byte stored.
 use mathlib.Core.List.{List, [], _∷_, _++_, append-assoc}
 use mathlib.Core.Path.{_≡_, ap, sym, _∙_}
 use Prim.Native.Nat.{ℕ, suc, _+_, _/_, _%_, _≤_}
-use native.Mathlib.Nat.{add-zero, zero-add}
+use native.Mathlib.Nat.{add-zero, zero-add, add-assoc}
 use native.Mathlib.Numerals.{add-one}
 use native.Mathlib.Omega.{arith}
 use lib.ListN.{length, take, drop, set, length-append, take-append-drop}
-use lib.Seq.{take-at, drop-at, take-add, drop-drop, sets-eq, paste, take-paste, drop-paste, length-take-le}
+use lib.Seq.{take-at, drop-at, take-add, drop-drop, sets-eq, paste, drop-paste, length-take-le}
 use Rattle.crc.specs.Check.{checkOf}
-use Rattle.spans.specs.Spans.{sealed, framed, payload, sizeOf}
-use Rattle.spans.proofs.SealLaws.{length-sealed}
-use Rattle.spans.proofs.SpanLaws.{total}
+use Rattle.spans.specs.Spans.{sealed}
 
-unfoldable pub written : List ℕ → ℕ → List ℕ → List ℕ → List ℕ
-written d at ks p = take at d ++ (framed ks p ++ drop (at + sizeOf ks) d)
-
-unfoldable pub copied : List ℕ → ℕ → List ℕ → List ℕ → List ℕ
-copied d done ks s = take done d ++ (payload ks s ++ drop (done + total ks) d)
+unfoldable pub filled : List ℕ → ℕ → List ℕ → ℕ → List ℕ
+filled d at xs n = take at d ++ (xs ++ drop (at + n) d)
 
 -- at the start nothing is done, at the end nothing is left
-pub written-start : (d ks p : List ℕ) → written d 0 ks p ≡ framed ks p ++ drop (sizeOf ks) d
-unfolding written
-written-start d ks p = rw zero-add
+pub filled-start : (d xs : List ℕ) (n : ℕ) → filled d 0 xs n ≡ xs ++ drop n d
+unfolding filled
+filled-start d xs n = rw zero-add
 
-pub written-end : (d : List ℕ) (at : ℕ) (p : List ℕ) → written d at [] p ≡ d
-unfolding written framed sizeOf
-written-end d at p = rw add-zero (take-append-drop at d)
+pub filled-end : (d : List ℕ) (at : ℕ) → filled d at [] 0 ≡ d
+unfolding filled
+filled-end d at = rw add-zero (take-append-drop at d)
 
-pub copied-start : (d ks s : List ℕ) → copied d 0 ks s ≡ payload ks s ++ drop (total ks) d
-unfolding copied
-copied-start d ks s = rw zero-add
-
-pub copied-end : (d : List ℕ) (done : ℕ) (s : List ℕ) → copied d done [] s ≡ d
-unfolding copied payload total
-copied-end d done s = rw add-zero (take-append-drop done d)
+-- a turn: the k bytes x are put behind what is done
+pub filled-turn : (d : List ℕ) (at : ℕ) (x : List ℕ) (k : ℕ) (xs : List ℕ) (n : ℕ) → at ≤ length d → length x ≡ k → filled (take at d ++ (x ++ drop (at + k) d)) (at + k) xs n ≡ filled d at (x ++ xs) (k + n)
+unfolding filled
+filled-turn d at x k xs n inside size =
+    let done : length (take at d ++ x) ≡ at + k = rw (length-append, length-take-le at d inside, size) in
+    let behind : drop (at + k + n) ((take at d ++ x) ++ drop (at + k) d) ≡ drop (at + (k + n)) d
+    = sym (drop-drop n (at + k) ((take at d ++ x) ++ drop (at + k) d))
+    ∙ ap (drop n) (drop-at (take at d ++ x) (drop (at + k) d) (at + k) done)
+    ∙ drop-drop n (at + k) d
+    ∙ ap (λ (y : ℕ). drop y d) (add-assoc at k n) in
+    rw (← append-assoc (take at d) x (drop (at + k) d), behind, take-at (take at d ++ x) (drop (at + k) d) (at + k) done)
+    (simp append-assoc)
 
 -- the two stores of a check are the sealed span in its place
 pub sealed-at : (d : List ℕ) (at k : ℕ) → at + k + 2 ≤ length d → set (set d (at + k) (checkOf (take k (drop at d)) / 256)) (at + k + 1) (checkOf (take k (drop at d)) % 256) ≡ take at d ++ (sealed (take k (drop at d)) ++ drop (at + k + 2) d)
@@ -44,33 +44,6 @@ sealed-at d at k fits =
     rw add-one
     (sets-eq (checkOf (take k (drop at d)) / 256 ∷ checkOf (take k (drop at d)) % 256 ∷ []) d (at + k) (omega arith)
     ∙ simp (take-add, append-assoc))
-
-module _ (d : List ℕ) (at k : ℕ) (ks p : List ℕ) (fits : at + k + 2 ≤ length d) (there : k ≤ length p) where
-  length-done : length (take at d ++ sealed (take k p)) ≡ at + (k + 2)
-  length-done = rw (length-append, length-sealed, length-take-le at d (omega arith), length-take-le k p there)
-
-  pub written-on : written (take at d ++ (sealed (take k p) ++ drop (at + k + 2) d)) (at + (k + 2)) ks (drop k p) ≡ written d at (k ∷ ks) p
-  unfolding written framed sizeOf
-  written-on =
-      let e : at + k + 2 + sizeOf ks ≡ at + (k + 2 + sizeOf ks) = omega arith in
-      let a : drop (at + (k + 2) + sizeOf ks) ((take at d ++ sealed (take k p)) ++ drop (at + k + 2) d) ≡ drop (at + (k + 2 + sizeOf ks)) d
-      = sym (drop-drop (sizeOf ks) (at + (k + 2)) ((take at d ++ sealed (take k p)) ++ drop (at + k + 2) d))
-      ∙ ap (drop (sizeOf ks)) (drop-at (take at d ++ sealed (take k p)) (drop (at + k + 2) d) (at + (k + 2)) length-done)
-      ∙ drop-drop (sizeOf ks) (at + k + 2) d
-      ∙ ap (λ (x : ℕ). drop x d) e in
-      rw (← append-assoc (take at d) (sealed (take k p)) (drop (at + k + 2) d), a, take-at (take at d ++ sealed (take k p)) (drop (at + k + 2) d) (at + (k + 2)) length-done)
-      (simp append-assoc)
-
-pub copied-on : (d : List ℕ) (done k : ℕ) (ks s : List ℕ) → done + k ≤ length d → k ≤ length s → copied (paste d done s k) (done + k) ks (drop (k + 2) s) ≡ copied d done (k ∷ ks) s
-unfolding copied payload total
-copied-on d done k ks s fits there =
-    let e : done + k + total ks ≡ done + (k + total ks) = omega arith in
-    let a : drop (done + k + total ks) (paste d done s k) ≡ drop (done + (k + total ks)) d
-    = sym (drop-drop (total ks) (done + k) (paste d done s k))
-    ∙ ap (drop (total ks)) (drop-paste d done s k (omega arith) there)
-    ∙ drop-drop (total ks) (done + k) d
-    ∙ ap (λ (x : ℕ). drop x d) e in
-    rw (a, take-paste d done s k (omega arith) there) (simp append-assoc)
 
 -- a span that was copied into its place, then sealed there
 pub sealed-paste : (d s : List ℕ) (at k : ℕ) → at + k ≤ length d → k ≤ length s → take at (paste d at s k) ++ (sealed (take k (drop at (paste d at s k))) ++ drop (at + k + 2) (paste d at s k)) ≡ take at d ++ (sealed (take k s) ++ drop (at + k + 2) d)

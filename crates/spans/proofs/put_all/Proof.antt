@@ -5,15 +5,15 @@ use Prim.Native.Nat.{_+_, _-_, _≤_}
 use native.Mathlib.Omega.{arith}
 use borrow.Author.Needs.{needs}
 use lib.ListN.{length, drop}
-use Rattle.spans.specs.Spans.{sizeOf, cut, spans}
-use Rattle.spans.proofs.WalkLaws.{written, written-end}
+use Rattle.spans.specs.Spans.{framed, sizeOf, cut, spans}
+use Rattle.spans.proofs.WalkLaws.{filled, filled-end}
 use Rattle.spans.proofs.TurnLaws.{sizeOf-turn, sizeOf-first, written-turn, written-first}
 use Rattle.spans.proofs.put_all.Statement.{statement}
 use Rattle.spans.proofs.put_all.Tie as tie
 
 abbrev Inv-loop : tie.InvT-loop
 Inv-loop l c first later out₀ done₀ at₀ out done at =
-    (done ≤ length c) × ((length out ≡ length out₀) × ((at + sizeOf (spans later later (length c - done)) ≤ length out) × (written out at (spans later later (length c - done)) (drop done c) ≡ written out₀ at₀ (spans later later (length c - done₀)) (drop done₀ c))))
+    (done ≤ length c) × ((length out ≡ length out₀) × ((at + sizeOf (spans later later (length c - done)) ≤ length out) × (filled out at (framed (spans later later (length c - done)) (drop done c)) (sizeOf (spans later later (length c - done))) ≡ filled out₀ at₀ (framed (spans later later (length c - done₀)) (drop done₀ c)) (sizeOf (spans later later (length c - done₀))))))
 
 abbrev μ-loop : tie.MeasureT-loop
 μ-loop l c first later out₀ done₀ at₀ out done at = length c - done
@@ -92,15 +92,15 @@ same-length : tie.Need-same-length Inv-loop μ-loop
 same-length c = c .before .loop .inv .1 .0 ∙ c .before .before .before .before .put-first .kept .1 .1 .1 .0
 
 returns : tie.Need-returns Inv-loop μ-loop
-unfolding cut
+unfolding framed sizeOf cut
 returns c =
     let a = c .before .before .before .before .before .before .before .before .before .args in
     let w = c .before .loop in
     let none : length (a .c .now) - w .done ≡ 0 = omega arith in
-    sym (written-end (w .out) (w .at) (drop (w .done) (a .c .now)))
+    sym (filled-end (w .out) (w .at))
     ∙ rw none at (w .inv .1 .1 .1)
     ∙ rw (c .before .before .before .before .put-first .ensures, c .before .before .before .before .before .before .smaller .ensures)
-    (written-first (a .first) (a .later) (length (a .c .now)) (omega arith) (omega arith) (a .l) (a .c .now) (a .out .now) refl (omega arith))
+    (written-first (a .first) (a .later) (length (a .c .now)) (omega arith) (omega arith) (a .l) (a .c .now) (a .out .now) refl)
 
 pub put-all-spec : {M : Type 1} → statement M
 put-all-spec =

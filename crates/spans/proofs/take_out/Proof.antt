@@ -6,16 +6,15 @@ use native.Mathlib.Nat.{sub-zero}
 use native.Mathlib.Omega.{arith}
 use borrow.Author.Needs.{needs}
 use lib.ListN.{length, drop}
-use Rattle.spans.specs.Spans.{sizeOf, cut, spans}
-use Rattle.spans.proofs.CutLaws.{total-spans}
+use Rattle.spans.specs.Spans.{payload, sizeOf, cut, spans}
 use Rattle.spans.proofs.TurnLaws.{sizeOf-turn, sizeOf-behind, copied-turn, payload-behind}
-use Rattle.spans.proofs.WalkLaws.{copied, copied-start, copied-end}
+use Rattle.spans.proofs.WalkLaws.{filled, filled-start, filled-end}
 use Rattle.spans.proofs.take_out.Statement.{statement}
 use Rattle.spans.proofs.take_out.Tie as tie
 
 abbrev Inv-loop : tie.InvT-loop
 Inv-loop s first later n out₀ at₀ most₀ done₀ out at most done =
-    (done ≤ n) × ((0 < most) × ((length out ≡ length out₀) × ((at + sizeOf (spans most later (n - done)) ≤ length s) × (copied out done (spans most later (n - done)) (drop at s) ≡ copied out₀ 0 (spans (first - 1) later n) (drop 1 s)))))
+    (done ≤ n) × ((0 < most) × ((length out ≡ length out₀) × ((at + sizeOf (spans most later (n - done)) ≤ length s) × (filled out done (payload (spans most later (n - done)) (drop at s)) (n - done) ≡ filled out₀ 0 (payload (spans (first - 1) later n) (drop 1 s)) n))))
 
 abbrev μ-loop : tie.MeasureT-loop
 μ-loop s first later n out₀ at₀ most₀ done₀ out at most done = n - done
@@ -92,15 +91,15 @@ same-length : tie.Need-same-length Inv-loop μ-loop
 same-length c = c .before .loop .inv .1 .1 .0
 
 returns : tie.Need-returns Inv-loop μ-loop
-unfolding cut
+unfolding payload cut
 returns c =
     let a = c .before .before .before .before .args in
     let w = c .before .loop in
     let none : a .n - w .done ≡ 0 = omega arith in
-    sym (copied-end (w .out) (w .done) (drop (w .at) (a .s .now)))
+    sym (filled-end (w .out) (w .done))
     ∙ rw none at (w .inv .1 .1 .1 .1)
-    ∙ copied-start (a .out .now) (spans (a .first - 1) (a .later) (a .n)) (drop 1 (a .s .now))
-    ∙ rw (total-spans (a .first - 1) (a .later) (a .n) (omega arith) (omega arith), payload-behind (a .first) (a .later) (a .n) (omega arith) (omega arith) (a .s .now) (omega (arith, sizeOf-behind (a .first) (a .later) (a .n) (omega arith) (omega arith)))) refl
+    ∙ filled-start (a .out .now) (payload (spans (a .first - 1) (a .later) (a .n)) (drop 1 (a .s .now))) (a .n)
+    ∙ rw (payload-behind (a .first) (a .later) (a .n) (omega arith) (omega arith) (a .s .now) (omega (arith, sizeOf-behind (a .first) (a .later) (a .n) (omega arith) (omega arith))))
 
 pub take-out-spec : {M : Type 1} → statement M
 take-out-spec =
