@@ -1,16 +1,17 @@
 -- What holds of every line code (specs/Codes), and what only a test of each code's words can show.
 --     numberFor-is     a number found is one of those searched, and the word is its word
---     Lawful κ         what a line code must be for the laws above: its bits divide a byte, a word has no fewer chips and at most 8, a byte at most 16,
---                      every number's word fits the chips, and is told from all others
+--     Lawful κ         what a line code must be for every law that follows: its bits divide a byte, a word has no fewer
+--                      chips and at most 8, a byte at most 16, every number's word fits the chips and is told from all others
 --     lawful           each of the three codes is so, by one computed test: the only place that goes by the three
 --     weight-three     every three-of-six code word has three ones; shown by the same test as that they are distinct
 --     wordOf-injective two numbers of a lawful code have different words
 --     words-le, unit-ge, chipsIn-ge, chipsIn-le    bounds on the words and chips of n bytes
 --     guess-tested     a way to guess that is right at every code word is a guess for every word
 --     valueOf-guessed  a word stands for what was guessed if it is that number's word, and else for nothing
---     valueOf-is       a word stands for x exactly when it is the code word of x (with the field `back`)
+--     valueOf-is, valueOf-accepts    a word stands for x exactly when it is the code word of x
 use mathlib.Core.Path.{_≡_, refl, ap, sym, _∙_}
 use mathlib.Core.Bool.{Bool, true, false, cond, _&&_}
+use mathlib.Core.Logic.{_↔_}
 use Prim.Native.Nat.{ℕ, zero, suc, _+_, _*_, _-_, _/_, _%_, _^_, _<_, _≤_}
 use native.Mathlib.Nat.{mul-le-mul-left, mul-assoc, div-le-self}
 use native.Mathlib.Omega.{arith}
@@ -141,6 +142,9 @@ module _ (κ : LineCode) (law : Lawful κ) where
 
   pub valueOf-is : (y x : ℕ) → valueOf κ y ≡ Is x → (x < 2 ^ κ .bits) × (κ .wordOf x ≡ y)
   valueOf-is y x h = numberFor-is (κ .wordOf) y (2 ^ κ .bits) x h
+
+  pub valueOf-accepts : (y x : ℕ) → (valueOf κ y ≡ Is x) ↔ ((x < 2 ^ κ .bits) × (κ .wordOf x ≡ y))
+  valueOf-accepts y x = (valueOf-is y x, λ h. ap (valueOf κ) (sym (h .1)) ∙ law .back x (h .0))
 
   pub valueOf-guessed : (y r : ℕ) → Guess κ y r → κ .wordOf r ≡ y → valueOf κ y ≡ Is r
   valueOf-guessed y r g e = ap (valueOf κ) (sym e) ∙ law .back r (g .below)

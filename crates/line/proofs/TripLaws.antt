@@ -7,6 +7,8 @@
 --     decoded-encoded, encoded-decoded    the same of the answers: decoding accepts what was encoded, and nothing else
 --     encoding-holds        the encoding itself holds b at its start, wherever it stands among other bytes
 --     chipAt-encoding       chip k of the encoding; 0 behind the last
+--     decoding-encoding     decoding what was encoded gives back the bytes
+--     encoding-decoding     encoding what was decoded gives back the chips
 --     length-encoding, encoding-lt, length-decoding, decoding-lt
 use mathlib.Core.Path.{_≡_, refl, ap, sym, _∙_}
 use mathlib.Core.Bool.{true}
@@ -152,3 +154,15 @@ module _ (κ : LineCode) (law : Lawful κ) (s : List ℕ) (start : ℕ) (d : Lis
 
   pub encoded-decoded : (n : ℕ) → decoded κ s start n d .answer ≡ Accepted → Holds κ s start (decoding κ s start n)
   encoded-decoded n h = encode-decode κ law s start n (decoded-accepts κ s start n d h .words)
+
+-- both round trips in one line each
+module _ (κ : LineCode) (law : Lawful κ) where
+  pub decoding-encoding : (b pre post : List ℕ) → ((j : ℕ) → getD b j 0 < 256) → decoding κ (pre ++ (encoding κ b ++ post)) (8 * length pre) (length b) ≡ b
+  decoding-encoding b pre post bytes = decode-encode κ law (pre ++ (encoding κ b ++ post)) (8 * length pre) b (encoding-holds κ b pre post) bytes
+
+  pub encoding-decoding : (s : List ℕ) (start n : ℕ) → goodRun (valueAt κ s start) (wordsIn κ n) ≡ wordsIn κ n
+      → (k : ℕ) → k < chipsIn κ n → chipAt (encoding κ (decoding κ s start n)) k ≡ chipAt s (start + k)
+  encoding-decoding s start n run k h =
+      let inside : k < chipsIn κ (length (decoding κ s start n)) = rw (length-decoding κ law s start n) h in
+      chipAt-encoding κ (decoding κ s start n) k
+      ∙ (upTo-within (chipsIn κ (length (decoding κ s start n))) (encodedChip κ (decoding κ s start n)) k inside ∙ sym (encode-decode κ law s start n run k inside))
