@@ -1,9 +1,11 @@
 -- A buffer is accepted exactly when it begins with a frame as writing gives it (document 01, demand 2).
 --     accepts         a buffer that begins with the frame of c is accepted, with that frame's size and length
 --     accepted        an accepted buffer begins with the frame of the content that stands in it
+--     accepted-exactly   the two in one statement
 --     frame-unique    no buffer begins with two frames
 use mathlib.Core.Bool.{Bool, true, false, cond}
 use mathlib.Core.List.{List, [], _∷_, _++_}
+use mathlib.Core.Logic.{_↔_}
 use mathlib.Core.Path.{_≡_, refl, ap, sym, _∙_}
 use Prim.Native.Nat.{ℕ, _+_, _≤_, _<_}
 use native.Mathlib.Omega.{arith}
@@ -49,7 +51,8 @@ module _ (f : Format) (c t : List ℕ) (low : formOf f .shortest ≤ length c) (
   pub judgeOf-frameOf : judgeOf f (frameOf f c ++ t) ≡ Judged.Accepted (frameSize f (length c)) (length c)
   unfolding byChecks
   judgeOf-frameOf =
-      judgeOf-whole f (frameOf f c ++ t) some (frameSize f (length c)) (length c) (ap (sizeFor f) first-byte ∙ sizeFor-back) (omega (arith, length-whole))
+      judgeOf-whole f (frameOf f c ++ t) some (frameSize f (length c)) (length c)
+      (ap (sizeFor f) first-byte ∙ sizeFor-back) (omega (arith, length-whole))
       ∙ ap (byChecks (frameSize f (length c)) (length c)) right
 
 -- a buffer that begins with a frame is that frame and what is behind it
@@ -66,7 +69,9 @@ pub content-there : (f : Format) (s : List ℕ) (z : ℕ) (c : List ℕ) → Fra
 content-there f s z c at = ap (contentIn f (length c)) (frame-split f s z c at) ∙ contentIn-frameOf f c (drop z s)
 
 -- what an acceptance says of each test
-by-checks : (z n y m : ℕ) (t : Bool) (w : Checks) → cond t Judged.Short (byChecks y m w) ≡ Judged.Accepted z n → (t ≡ false) × ((w ≡ Right) × ((y ≡ z) × (m ≡ n)))
+by-checks :
+    (z n y m : ℕ) (t : Bool) (w : Checks) → cond t Judged.Short (byChecks y m w) ≡ Judged.Accepted z n
+    → (t ≡ false) × ((w ≡ Right) × ((y ≡ z) × (m ≡ n)))
 unfolding byChecks
 by-checks z n y m true w h = (cc, (cc, (cc, cc)))
 by-checks z n y m false Right h = (refl, (refl, (cc, cc)))
@@ -77,7 +82,9 @@ pub record Whole (f : Format) (s : List ℕ) (l z n : ℕ) : Type 0 where
   pub fits : z ≤ length s
   pub right : firstWrong 1 (spansOf f n) s ≡ Right
 
-by-size : (f : Format) (s : List ℕ) (l z n : ℕ) (q : FrameSize) → sizeFor f l ≡ q → bySize f s q ≡ Judged.Accepted z n → Whole f s l z n
+by-size :
+    (f : Format) (s : List ℕ) (l z n : ℕ) (q : FrameSize) → sizeFor f l ≡ q → bySize f s q ≡ Judged.Accepted z n
+    → Whole f s l z n
 unfolding bySize
 by-size f s l z n (FrameSize.Bytes y m) e h =
     let p = by-checks z n y m (ltb (length s) y) (firstWrong 1 (spansOf f m) s) h in
@@ -89,7 +96,8 @@ by-size f s l z n (FrameSize.Bytes y m) e h =
 by-size f s l z n FrameSize.BadLength e h = absurd (clash (cc))
 
 -- the accepted content is the one whose frame stands there
-pub frameOf-length : (f : Format) (c : List ℕ) (n : ℕ) → length c ≡ n → frameOf f c ≡ framed (spansOf f n) (formOf f .lengthByte n ∷ c)
+pub frameOf-length :
+    (f : Format) (c : List ℕ) (n : ℕ) → length c ≡ n → frameOf f c ≡ framed (spansOf f n) (formOf f .lengthByte n ∷ c)
 unfolding frameOf
 frameOf-length f c n e = rw e
 
@@ -97,11 +105,15 @@ payload-content : (f : Format) (l : ℕ) (s : List ℕ) (n : ℕ) → payload (s
 unfolding contentIn
 payload-content f l s n = payload-head (formOf f .first) (formOf f .later) n (first-wide f) (later-some f) l s
 
-framed-whole : (f : Format) (n : ℕ) (s : List ℕ) → frameSize f n ≤ length s → firstWrong 1 (spansOf f n) s ≡ Right → framed (spansOf f n) (payload (spansOf f n) s) ≡ take (frameSize f n) s
+framed-whole :
+    (f : Format) (n : ℕ) (s : List ℕ) → frameSize f n ≤ length s → firstWrong 1 (spansOf f n) s ≡ Right
+    → framed (spansOf f n) (payload (spansOf f n) s) ≡ take (frameSize f n) s
 unfolding frameSize
 framed-whole f n s fits right = framed-payload 1 (spansOf f n) s fits right
 
-begun : (f : Format) (l : ℕ) (s : List ℕ) (z n : ℕ) → Whole f (l ∷ s) l z n → (length (contentIn f n (l ∷ s)) ≡ n) × FrameAt f (l ∷ s) z (contentIn f n (l ∷ s))
+begun :
+    (f : Format) (l : ℕ) (s : List ℕ) (z n : ℕ) → Whole f (l ∷ s) l z n
+    → (length (contentIn f n (l ∷ s)) ≡ n) × FrameAt f (l ∷ s) z (contentIn f n (l ∷ s))
 begun f l s z n w =
     let p = sizeFor-bytes f l z n (w .sized) in
     let size : frameSize f n ≤ length (l ∷ s) = omega (arith, p .size, w .fits) in
@@ -114,35 +126,52 @@ begun f l s z n w =
         low = rw e (sizeFor-low f l z n (w .sized));
         high = rw e (sizeFor-high f l z n (w .sized));
         size = rw e (p .size);
-        bytes = rw (p .size) (sym whole ∙ sym (frameOf-length f (contentIn f n (l ∷ s)) n e ∙ ap (λ (b : ℕ). framed (spansOf f n) (b ∷ contentIn f n (l ∷ s))) byte));
+        bytes = rw (p .size) (sym whole ∙ sym
+            (frameOf-length f (contentIn f n (l ∷ s)) n e ∙
+            ap (λ (b : ℕ). framed (spansOf f n) (b ∷ contentIn f n (l ∷ s))) byte));
       },
     )
 
-pub accepted : (f : Format) (s : List ℕ) (z n : ℕ) → judgeOf f s ≡ Judged.Accepted z n → (length (contentIn f n s) ≡ n) × FrameAt f s z (contentIn f n s)
+pub accepted :
+    (f : Format) (s : List ℕ) (z n : ℕ) → judgeOf f s ≡ Judged.Accepted z n
+    → (length (contentIn f n s) ≡ n) × FrameAt f s z (contentIn f n s)
 unfolding judgeOf
 accepted f [] z n h = absurd (clash (cc))
 accepted f (l ∷ s) z n h = begun f l s z n (by-size f (l ∷ s) l z n (sizeFor f l) refl h)
 
-pub accepted-fits : (f : Format) (s : List ℕ) (z n : ℕ) → judgeOf f s ≡ Judged.Accepted z n → (z ≡ frameSize f n) × (z ≤ length s)
+-- both directions in one: accepted with (z, n) exactly when some content of n bytes has its frame, of z bytes, there
+pub accepted-exactly :
+    (f : Format) (s : List ℕ) (z n : ℕ)
+    → (judgeOf f s ≡ Judged.Accepted z n) ↔ ((c : List ℕ) × ((length c ≡ n) × FrameAt f s z c))
+accepted-exactly f s z n =
+    (λ h. (contentIn f n s, accepted f s z n h), λ w. accepts f s z (w .0) (w .1 .1) ∙ ap (Judged.Accepted z) (w .1 .0))
+
+pub accepted-fits :
+    (f : Format) (s : List ℕ) (z n : ℕ) → judgeOf f s ≡ Judged.Accepted z n → (z ≡ frameSize f n) × (z ≤ length s)
 accepted-fits f s z n h =
     let both = accepted f s z n h in
-    let whole : length (take z s) ≡ frameSize f n = ap length (both .1 .bytes) ∙ length-frameOf f (contentIn f n s) ∙ ap (frameSize f) (both .0) in
+    let whole : length (take z s) ≡ frameSize f n = ap length (both .1 .bytes) ∙ length-frameOf f (contentIn f n s) ∙
+    ap (frameSize f) (both .0) in
     let size : z ≡ frameSize f n = both .1 .size ∙ ap (frameSize f) (both .0) in
     (size, omega (arith, size, whole, length-take z s))
 
-pub frame-unique : (f : Format) (s : List ℕ) (z y : ℕ) (c d : List ℕ) → FrameAt f s z c → FrameAt f s y d → (z ≡ y) × (c ≡ d)
+pub frame-unique :
+    (f : Format) (s : List ℕ) (z y : ℕ) (c d : List ℕ) → FrameAt f s z c → FrameAt f s y d → (z ≡ y) × (c ≡ d)
 frame-unique f s z y c d p q =
     let same : Judged.Accepted z (length c) ≡ Judged.Accepted y (length d) = sym (accepts f s z c p) ∙ accepts f s y d q in
     let n : length c ≡ length d = cc in
     (cc, sym (content-there f s z c p) ∙ ap (λ (k : ℕ). contentIn f k s) n ∙ content-there f s y d q)
 
 -- what an accepted buffer holds, as the walks over spans want it
-pub accepted-right : (f : Format) (s : List ℕ) (z n : ℕ) → judgeOf f s ≡ Judged.Accepted z n → firstWrong 1 (spansOf f n) s ≡ Right
+pub accepted-right :
+    (f : Format) (s : List ℕ) (z n : ℕ) → judgeOf f s ≡ Judged.Accepted z n → firstWrong 1 (spansOf f n) s ≡ Right
 unfolding judgeOf
 accepted-right f [] z n h = absurd (clash (cc))
 accepted-right f (l ∷ s) z n h = by-size f (l ∷ s) l z n (sizeFor f l) refl h .right
 
-pub accepted-payload : (f : Format) (s : List ℕ) (z n : ℕ) → judgeOf f s ≡ Judged.Accepted z n → payload (spansOf f n) s ≡ formOf f .lengthByte n ∷ contentIn f n s
+pub accepted-payload :
+    (f : Format) (s : List ℕ) (z n : ℕ) → judgeOf f s ≡ Judged.Accepted z n
+    → payload (spansOf f n) s ≡ formOf f .lengthByte n ∷ contentIn f n s
 unfolding judgeOf
 accepted-payload f [] z n h = absurd (clash (cc))
 accepted-payload f (l ∷ s) z n h =

@@ -2,6 +2,7 @@
 --     change-mends      an accepted change is s with the byte in its place and its check updated
 --     change-touches    so it touches the byte and the two bytes of the check over it, and the new check follows from the
 --                       old check, the old and the new byte and the distance to the span's end alone
+--     change-same       setting the value that is there changes nothing
 --     change-frame      the buffer then begins with the frame of the changed content, the bytes behind it stay
 use mathlib.Core.Bool.{Bool, true, false, cond}
 use mathlib.Core.List.{List, _∷_, _++_}
@@ -11,8 +12,8 @@ use native.Mathlib.Numerals.{add-one}
 use native.Mathlib.Omega.{arith}
 use borrow.Author.Tests.{lt-ltb, le-ltb, ltb-true, ltb-false}
 use lib.Dec.{ltb}
-use lib.ListN.{length, drop, set, length-set}
-use lib.Seq.{take-at, drop-at, set-out}
+use lib.ListN.{getD, length, drop, set, length-set}
+use lib.Seq.{set-getD, take-at, drop-at, set-out}
 use Rattle.ground.specs.Outcome.{Outcome}
 use Rattle.spans.specs.Spans.{payload, sizeOf}
 use Rattle.spans.specs.Places.{mended}
@@ -39,32 +40,45 @@ module _ (f : Format) (s : List ℕ) (k b : ℕ) where
   changing-by j e = ap (setIn f s k b) e
 
   module _ (z n : ℕ) (e : Judged.Accepted z n ≡ judgeOf f s) where
-    pub changing-bad-place : n ≤ k → _≡_ {A = Outcome Changed} (record { answer = Changed.BadPlace; memory = s }) (changingOf f s k b)
+    pub changing-bad-place :
+        n ≤ k → _≡_ {A = Outcome Changed} (record { answer = Changed.BadPlace; memory = s }) (changingOf f s k b)
     unfolding setIn
     changing-bad-place h = rw (le-ltb k n h) at (changing-by (Judged.Accepted z n) e)
 
-    pub changing-accepted : k < n → _≡_ {A = Outcome Changed} (record { answer = Changed.Accepted z n; memory = frameOf f (set (contentIn f n s) k b) ++ drop z s }) (changingOf f s k b)
+    pub changing-accepted :
+        k < n
+        → _≡_ {A = Outcome Changed}
+        (record { answer = Changed.Accepted z n; memory = frameOf f (set (contentIn f n s) k b) ++ drop z s })
+        (changingOf f s k b)
     unfolding setIn
     changing-accepted h = rw (lt-ltb k n h) at (changing-by (Judged.Accepted z n) e)
 
     -- mending in place is writing the changed content afresh
-    mended-frame : k < n → mended s (placeOf f n k) (checkPlaceOf f n k) b ≡ frameOf f (set (contentIn f n s) k b) ++ drop z s
+    mended-frame :
+        k < n → mended s (placeOf f n k) (checkPlaceOf f n k) b ≡ frameOf f (set (contentIn f n s) k b) ++ drop z s
     mended-frame h =
         let fits = accepted-fits f s z n (sym e) in
         let size : length (set (contentIn f n s) k b) ≡ n = length-set (contentIn f n s) k b ∙ accepted f s z n (sym e) .0 in
-        let store : set (payload (spansOf f n) s) (k + 1) b ≡ formOf f .lengthByte n ∷ set (contentIn f n s) k b = rw (accepted-payload f s z n (sym e), add-one k) in
+        let store : set (payload (spansOf f n) s) (k + 1) b ≡ formOf f .lengthByte n ∷ set (contentIn f n s) k b =
+        rw (accepted-payload f s z n (sym e), add-one k) in
         let behind : drop (sizeOf (spansOf f n)) s ≡ drop z s = ap (λ (x : ℕ). drop x s) (sym (fits .0 ∙ size-is f n)) in
-        mended-framed 1 (spansOf f n) s (k + 1) b (omega (arith, fits .0, fits .1, size-is f n)) (accepted-right f s z n (sym e)) (omega (arith, total-spansOf f n)) (widest-spans 126 (formOf f .first) (formOf f .later) (n + 1) (first-near f) (later-near f))
+        mended-framed 1 (spansOf f n) s (k + 1) b (omega (arith, fits .0, fits .1, size-is f n))
+        (accepted-right f s z n (sym e)) (omega (arith, total-spansOf f n))
+        (widest-spans 126 (formOf f .first) (formOf f .later) (n + 1) (first-near f) (later-near f))
         ∙ rw (store, behind, frameOf-length f (set (contentIn f n s) k b) n size)
 
-    pub change-mends : k < n → _≡_ {A = Outcome Changed} (changingOf f s k b) (record { answer = Changed.Accepted z n; memory = mended s (placeOf f n k) (checkPlaceOf f n k) b })
+    pub change-mends :
+        k < n
+        → _≡_ {A = Outcome Changed} (changingOf f s k b)
+        (record { answer = Changed.Accepted z n; memory = mended s (placeOf f n k) (checkPlaceOf f n k) b })
     change-mends h = rw (mended-frame h) (sym (changing-accepted h))
 
     pub change-touches : k < n → Touches s (changingOf f s k b .memory) (placeOf f n k) (checkPlaceOf f n k) b
     change-touches h =
         let fits = accepted-fits f s z n (sym e) in
         let p = placed (spansOf f n) (k + 1) (omega (arith, total-spansOf f n)) in
-        rw (change-mends h) (mended-touches s (placeOf f n k) (checkPlaceOf f n k) b (p .before) (omega (arith, p .inside, fits .0, fits .1, size-is f n)))
+        rw (change-mends h) (mended-touches s (placeOf f n k) (checkPlaceOf f n k) b (p .before)
+        (omega (arith, p .inside, fits .0, fits .1, size-is f n)))
 
 -- a change of a buffer that begins with a frame: answer and memory, accepted or refused for its place
 module _ (f : Format) (s : List ℕ) (z : ℕ) (c : List ℕ) (at : FrameAt f s z c) (k b : ℕ) where
@@ -72,16 +86,26 @@ module _ (f : Format) (s : List ℕ) (z : ℕ) (c : List ℕ) (at : FrameAt f s 
   unfolding changingOf setIn
   change-answer = rw (accepts f s z c at) (by-place (ltb k (length c)))
     where
-      by-place : (t : Bool) → cond {A = Outcome Changed} t (record { answer = Changed.Accepted z (length c); memory = frameOf f (set (contentIn f (length c) s) k b) ++ drop z s }) (record { answer = Changed.BadPlace; memory = s }) .answer ≡ cond t (Changed.Accepted z (length c)) Changed.BadPlace
+      by-place :
+          (t : Bool)
+          → cond {A = Outcome Changed} t
+          (record {
+            answer = Changed.Accepted z (length c);
+            memory = frameOf f (set (contentIn f (length c) s) k b) ++
+                drop z s;
+          }) (record { answer = Changed.BadPlace; memory = s }) .answer
+          ≡ cond t (Changed.Accepted z (length c)) Changed.BadPlace
       by-place true = refl
       by-place false = refl
 
   memory-by : (t : Bool) → ltb k (length c) ≡ t → changingOf f s k b .memory ≡ frameOf f (set c k b) ++ drop z s
   memory-by true h =
-      sym (ap (λ (o : Outcome Changed). o .memory) (changing-accepted f s k b z (length c) (sym (accepts f s z c at)) (ltb-true k (length c) h)))
+      sym (ap (λ (o : Outcome Changed). o .memory)
+      (changing-accepted f s k b z (length c) (sym (accepts f s z c at)) (ltb-true k (length c) h)))
       ∙ ap (λ (d : List ℕ). frameOf f (set d k b) ++ drop z s) (content-there f s z c at)
   memory-by false h =
-      sym (ap (λ (o : Outcome Changed). o .memory) (changing-bad-place f s k b z (length c) (sym (accepts f s z c at)) (ltb-false k (length c) h)))
+      sym (ap (λ (o : Outcome Changed). o .memory)
+      (changing-bad-place f s k b z (length c) (sym (accepts f s z c at)) (ltb-false k (length c) h)))
       ∙ frame-split f s z c at
       ∙ ap (λ (d : List ℕ). frameOf f d ++ drop z s) (sym (set-out c k b (ltb-false k (length c) h)))
 
@@ -103,3 +127,13 @@ module _ (f : Format) (s : List ℕ) (z : ℕ) (c : List ℕ) (at : FrameAt f s 
 
   pub change-behind : drop z (changingOf f s k b .memory) ≡ drop z s
   change-behind = rw change-memory (drop-at (frameOf f (set c k b)) (drop z s) z size-after)
+
+-- setting the value that is there is accepted and changes nothing
+pub change-same :
+    (f : Format) (s : List ℕ) (z : ℕ) (c : List ℕ) → FrameAt f s z c → (k : ℕ) → k < length c
+    → changingOf f s k (getD c k 0) ≡ record { answer = Changed.Accepted z (length c); memory = s }
+change-same f s z c at k there =
+    let e : set (contentIn f (length c) s) k (getD c k 0) ≡ c = rw (content-there f s z c at) (set-getD c k 0) in
+    sym (changing-accepted f s k (getD c k 0) z (length c) (sym (accepts f s z c at)) there)
+    ∙ ap (λ (m : List ℕ). record { answer = Changed.Accepted z (length c); memory = m })
+    (ap (λ (d : List ℕ). frameOf f d ++ drop z s) e ∙ sym (frame-split f s z c at))

@@ -71,7 +71,8 @@ backTest f n =
 unfoldable thereTest : Format → ℕ → Bool
 thereTest f l =
     cond (formOf f .allowed l)
-    (eqb (formOf f .lengthByte (formOf f .contentLength l)) l && within (formOf f .shortest) (formOf f .longest) (formOf f .contentLength l)) true
+    (eqb (formOf f .lengthByte (formOf f .contentLength l)) l && within (formOf f .shortest) (formOf f .longest)
+    (formOf f .contentLength l)) true
 
 backs : (f : Format) → T (allBelow (backTest f) 256)
 unfolding backTest
@@ -83,17 +84,29 @@ unfolding thereTest
 theres A = tt
 theres B = tt
 
-pub length-back : (f : Format) (n : ℕ) → formOf f .shortest ≤ n → n ≤ formOf f .longest → (formOf f .allowed (formOf f .lengthByte n) ≡ true) × (formOf f .contentLength (formOf f .lengthByte n) ≡ n)
+pub length-back :
+    (f : Format) (n : ℕ) → formOf f .shortest ≤ n → n ≤ formOf f .longest
+    → (formOf f .allowed (formOf f .lengthByte n) ≡ true) × (formOf f .contentLength (formOf f .lengthByte n) ≡ n)
 unfolding backTest
 length-back f n low high =
-    let both = implied (within (formOf f .shortest) (formOf f .longest) n) (formOf f .allowed (formOf f .lengthByte n) && eqb (formOf f .contentLength (formOf f .lengthByte n)) n) (below-at (backTest f) 256 (backs f) n (omega (arith, longest-byte f))) (within-true _ _ n low high) in
+    let both = implied (within (formOf f .shortest) (formOf f .longest) n)
+    (formOf f .allowed (formOf f .lengthByte n) && eqb (formOf f .contentLength (formOf f .lengthByte n)) n)
+    (below-at (backTest f) 256 (backs f) n (omega (arith, longest-byte f))) (within-true _ _ n low high) in
     (and-left _ _ both, eqb-true _ _ (and-right (formOf f .allowed (formOf f .lengthByte n)) _ both))
 
-pub length-there : (f : Format) (l : ℕ) → formOf f .allowed l ≡ true → (formOf f .lengthByte (formOf f .contentLength l) ≡ l) × ((formOf f .shortest ≤ formOf f .contentLength l) × (formOf f .contentLength l ≤ formOf f .longest))
+pub length-there :
+    (f : Format) (l : ℕ) → formOf f .allowed l ≡ true
+    → (formOf f .lengthByte (formOf f .contentLength l) ≡ l) ×
+    ((formOf f .shortest ≤ formOf f .contentLength l) × (formOf f .contentLength l ≤ formOf f .longest))
 unfolding thereTest
 length-there f l h =
-    let both = implied (formOf f .allowed l) (eqb (formOf f .lengthByte (formOf f .contentLength l)) l && within (formOf f .shortest) (formOf f .longest) (formOf f .contentLength l)) (below-at (thereTest f) 256 (theres f) l (allowed-byte f l h)) h in
-    (eqb-true _ _ (and-left (eqb (formOf f .lengthByte (formOf f .contentLength l)) l) _ both), true-within _ _ _ (and-right (eqb (formOf f .lengthByte (formOf f .contentLength l)) l) _ both))
+    let both = implied (formOf f .allowed l)
+    (eqb (formOf f .lengthByte (formOf f .contentLength l)) l && within (formOf f .shortest) (formOf f .longest)
+    (formOf f .contentLength l)) (below-at (thereTest f) 256 (theres f) l (allowed-byte f l h)) h in (
+      eqb-true _ _ (and-left (eqb (formOf f .lengthByte (formOf f .contentLength l)) l) _ both),
+      true-within _ _ _
+          (and-right (eqb (formOf f .lengthByte (formOf f .contentLength l)) l) _ both),
+    )
 
 -- sixteen bytes at a time, two more for each begun sixteen
 sizeOf-sixteens : (steps t : ℕ) → t ≤ steps → sizeOf (cut steps 16 16 t) ≡ t + 2 * ((t + 15) / 16)

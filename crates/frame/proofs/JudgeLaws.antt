@@ -20,7 +20,9 @@ pub record Sized (f : Format) (l z n : ℕ) : Type 0 where
   pub size : z ≡ frameSize f n
   pub content : formOf f .contentLength l ≡ n
 
-sized-by : (f : Format) (l : ℕ) (a : Bool) (z n y m : ℕ) → cond a (FrameSize.Bytes y m) FrameSize.BadLength ≡ FrameSize.Bytes z n → (a ≡ true) × ((y ≡ z) × (m ≡ n))
+sized-by :
+    (f : Format) (l : ℕ) (a : Bool) (z n y m : ℕ)
+    → cond a (FrameSize.Bytes y m) FrameSize.BadLength ≡ FrameSize.Bytes z n → (a ≡ true) × ((y ≡ z) × (m ≡ n))
 sized-by f l true z n y m h = (refl, (cc, cc))
 sized-by f l false z n y m h = (cc, (cc, cc))
 

@@ -1,8 +1,10 @@
 -- Reading, case by case, and "accepted exactly when" for the call itself: answer and lent memory.
 --     read-accepts      where the buffer begins with the frame of c and there is room, c is handed over
 --     read-accepted     whatever is handed over is the content of the one frame that the buffer begins with
+--     read-exactly      the two in one statement
 use mathlib.Core.Bool.{Bool, true, false, cond}
 use mathlib.Core.List.{List, _++_}
+use mathlib.Core.Logic.{_↔_}
 use mathlib.Core.Path.{_≡_, refl, ap, sym, _∙_}
 use Prim.Native.Nat.{ℕ, _≤_, _<_}
 use native.Mathlib.Omega.{arith}
@@ -25,18 +27,25 @@ module _ (f : Format) (s d : List ℕ) where
   reading-by j e = ap (takenOut f s d) e
 
   module _ (z n : ℕ) (e : Judged.Accepted z n ≡ judgeOf f s) where
-    pub reading-no-room : length d < n → _≡_ {A = Outcome Reading} (record { answer = Reading.NoRoom; memory = d }) (readingOf f s d)
+    pub reading-no-room :
+        length d < n → _≡_ {A = Outcome Reading} (record { answer = Reading.NoRoom; memory = d }) (readingOf f s d)
     unfolding takenOut
     reading-no-room h = rw (lt-ltb (length d) n h) at (reading-by (Judged.Accepted z n) e)
 
-    pub reading-accepted : n ≤ length d → _≡_ {A = Outcome Reading} (record { answer = Reading.Accepted z n; memory = contentIn f n s ++ drop n d }) (readingOf f s d)
+    pub reading-accepted :
+        n ≤ length d
+        → _≡_ {A = Outcome Reading} (record { answer = Reading.Accepted z n; memory = contentIn f n s ++ drop n d })
+        (readingOf f s d)
     unfolding takenOut
     reading-accepted h = rw (le-ltb (length d) n h) at (reading-by (Judged.Accepted z n) e)
 
-pub read-accepts : (f : Format) (s d : List ℕ) (z : ℕ) (c : List ℕ) → FrameAt f s z c → length c ≤ length d → readingOf f s d ≡ record { answer = Reading.Accepted z (length c); memory = c ++ drop (length c) d }
+pub read-accepts :
+    (f : Format) (s d : List ℕ) (z : ℕ) (c : List ℕ) → FrameAt f s z c → length c ≤ length d
+    → readingOf f s d ≡ record { answer = Reading.Accepted z (length c); memory = c ++ drop (length c) d }
 read-accepts f s d z c at room =
     sym (reading-accepted f s d z (length c) (sym (accepts f s z c at)) room)
-    ∙ ap (λ (m : List ℕ). record { answer = Reading.Accepted z (length c); memory = m ++ drop (length c) d }) (content-there f s z c at)
+    ∙ ap (λ (m : List ℕ). record { answer = Reading.Accepted z (length c); memory = m ++ drop (length c) d })
+    (content-there f s z c at)
 
 -- what an accepted reading hands over
 pub record Handed (f : Format) (s d : List ℕ) (z n : ℕ) (c : List ℕ) : Type 0 where
@@ -45,11 +54,18 @@ pub record Handed (f : Format) (s d : List ℕ) (z n : ℕ) (c : List ℕ) : Typ
   pub room : n ≤ length d
   pub memory : readingOf f s d .memory ≡ c ++ drop n d
 
-by-room : (f : Format) (s d : List ℕ) (z n y m : ℕ) (t : Bool) → cond {A = Outcome Reading} t (record { answer = Reading.NoRoom; memory = d }) (record { answer = Reading.Accepted y m; memory = contentIn f m s ++ drop m d }) .answer ≡ Reading.Accepted z n → (t ≡ false) × ((y ≡ z) × (m ≡ n))
+by-room :
+    (f : Format) (s d : List ℕ) (z n y m : ℕ) (t : Bool)
+    → cond {A = Outcome Reading} t (record { answer = Reading.NoRoom; memory = d })
+    (record { answer = Reading.Accepted y m; memory = contentIn f m s ++ drop m d }) .answer
+    ≡ Reading.Accepted z n
+    → (t ≡ false) × ((y ≡ z) × (m ≡ n))
 by-room f s d z n y m true h = (cc, (cc, cc))
 by-room f s d z n y m false h = (refl, (cc, cc))
 
-handed : (f : Format) (s d : List ℕ) (z n : ℕ) (j : Judged) → judgeOf f s ≡ j → takenOut f s d j .answer ≡ Reading.Accepted z n → Handed f s d z n (contentIn f n s)
+handed :
+    (f : Format) (s d : List ℕ) (z n : ℕ) (j : Judged) → judgeOf f s ≡ j
+    → takenOut f s d j .answer ≡ Reading.Accepted z n → Handed f s d z n (contentIn f n s)
 unfolding takenOut
 handed f s d z n (Judged.Accepted y m) e h =
     let p = by-room f s d z n y m (ltb (length d) m) h in
@@ -66,6 +82,18 @@ handed f s d z n Judged.Short e h = absurd (clash (cc))
 handed f s d z n Judged.BadLength e h = absurd (clash (cc))
 handed f s d z n (Judged.WrongCheck b) e h = absurd (clash (cc))
 
-pub read-accepted : (f : Format) (s d : List ℕ) (z n : ℕ) → readingOf f s d .answer ≡ Reading.Accepted z n → Handed f s d z n (contentIn f n s)
+pub read-accepted :
+    (f : Format) (s d : List ℕ) (z n : ℕ) → readingOf f s d .answer ≡ Reading.Accepted z n
+    → Handed f s d z n (contentIn f n s)
 unfolding readingOf
 read-accepted f s d z n h = handed f s d z n (judgeOf f s) refl h
+
+-- both directions in one: what is answered and what then stands in the lent memory
+pub read-exactly :
+    (f : Format) (s d : List ℕ) (z n : ℕ)
+    → (readingOf f s d .answer ≡ Reading.Accepted z n) ↔ ((c : List ℕ) × Handed f s d z n c)
+read-exactly f s d z n = (
+  λ h. (contentIn f n s, read-accepted f s d z n h),
+  λ w. ap (λ (o : Outcome Reading). o .answer) (read-accepts f s d z (w .0) (w .1 .frame) (rw (w .1 .sized) (w .1 .room)))
+      ∙ ap (Reading.Accepted z) (w .1 .sized),
+)

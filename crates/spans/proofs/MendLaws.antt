@@ -35,7 +35,8 @@ module _ (q r : List ℕ) (j v : ℕ) (there : j < length q) (near : length q �
   updatedAt-sealed =
       let post : length (drop (suc j) q) ≡ length q - 1 - j = rw (length-drop (suc j) q) (omega arith) in
       let old : checkOf (take j q ++ (getD q j 0 ∷ drop (suc j) q)) ≡ checkOf q = ap checkOf (sym (split-at q j 0 there)) in
-      let new : updating (checkOf q) (getD q j 0) v (length q - 1 - j) ≡ _ = updating-mends (checkOf q) (getD q j 0) v (length q - 1 - j) (omega arith) (take j q) (drop (suc j) q) post old in
+      let new : updating (checkOf q) (getD q j 0) v (length q - 1 - j) ≡ _ = updating-mends (checkOf q) (getD q j 0) v
+      (length q - 1 - j) (omega arith) (take j q) (drop (suc j) q) post old in
       rw (checkAt-sealed, getD-sealed, new, set-split q j v there)
 
   -- a byte of the first span: the three stores are the changed span, sealed
@@ -46,11 +47,23 @@ module _ (q r : List ℕ) (j v : ℕ) (there : j < length q) (near : length q �
       let e : length (set q j v) ≡ length q = length-set q j v in
       let left : set (q ++ checkOf q / 256 ∷ checkOf q % 256 ∷ r) j v ≡ set q j v ++ checkOf q / 256 ∷ checkOf q % 256 ∷ r
       = set-append-left q (checkOf q / 256 ∷ checkOf q % 256 ∷ r) j v there in
-      let high : set (set q j v ++ checkOf q / 256 ∷ checkOf q % 256 ∷ r) (length q) (u / 256) ≡ set q j v ++ u / 256 ∷ checkOf q % 256 ∷ r
+      let high : set (set q j v ++ checkOf q / 256 ∷ checkOf q % 256 ∷ r) (length q) (u / 256) ≡ set q j v ++ u / 256
+      ∷ checkOf q % 256 ∷ r
       = set-at (set q j v) (checkOf q / 256) (checkOf q % 256 ∷ r) (u / 256) (length q) e in
-      let low : set ((set q j v ++ (u / 256 ∷ [])) ++ checkOf q % 256 ∷ r) (length q + 1) (u % 256) ≡ (set q j v ++ (u / 256 ∷ [])) ++ u % 256 ∷ r
-      = set-at (set q j v ++ (u / 256 ∷ [])) (checkOf q % 256) r (u % 256) (length q + 1) (length-append (set q j v) (u / 256 ∷ []) ∙ ap (λ (n : ℕ). n + 1) e) in
-      rw (updatedAt-sealed, sealed-append q r, left, high, ← append-assoc (set q j v) (u / 256 ∷ []) (checkOf q % 256 ∷ r), low, sealed-append (set q j v) r)
+      let low : set ((set q j v ++ (u / 256 ∷ [])) ++ checkOf q % 256 ∷ r) (length q + 1) (u % 256) ≡
+      (set q j v ++ (u / 256 ∷ [])) ++ u % 256 ∷ r
+      = set-at (set q j v ++ (u / 256 ∷ [])) (checkOf q % 256) r (u % 256) (length q + 1)
+      (length-append (set q j v) (u / 256 ∷ []) ∙ ap (λ (n : ℕ). n + 1) e) in
+      rw (
+        updatedAt-sealed,
+        sealed-append q r,
+        left,
+        high,
+        ← append-assoc (set q j v) (u / 256 ∷ [])
+            (checkOf q % 256 ∷ r),
+        low,
+        sealed-append (set q j v) r,
+      )
       (append-assoc (set q j v) (u / 256 ∷ []) (u % 256 ∷ r))
 
 -- a byte behind a front part: mending leaves that part alone and does not look at it
@@ -75,19 +88,54 @@ module _ (q r ks : List ℕ) (j v : ℕ) where
   unfolding framed
   framed-whole p t e = rw (take-at p t (length q) e, drop-at p t (length q) e)
 
-  mended-here : j < length q → length q ≤ 126 → framed ks (payload ks r) ≡ take (sizeOf ks) r → mended (sealed q ++ r) j (length q) v ≡ framed (length q ∷ ks) (set (payload (length q ∷ ks) (sealed q ++ r)) j v) ++ drop (sizeOf (length q ∷ ks)) (sealed q ++ r)
+  mended-here :
+      j < length q → length q ≤ 126 → framed ks (payload ks r) ≡ take (sizeOf ks) r
+      → mended (sealed q ++ r) j (length q) v
+      ≡ framed (length q ∷ ks) (set (payload (length q ∷ ks) (sealed q ++ r)) j v) ++ drop (sizeOf (length q ∷ ks))
+      (sealed q ++ r)
   mended-here there near right =
-      rw (payload-whole, drop-whole, set-append-left q (payload ks r) j v there, framed-whole (set q j v) (payload ks r) (length-set q j v), right, append-assoc (sealed (set q j v)) (take (sizeOf ks) r) (drop (sizeOf ks) r), take-append-drop (sizeOf ks) r)
+      rw (
+        payload-whole,
+        drop-whole,
+        set-append-left q (payload ks r) j v there,
+        framed-whole (set q j v)
+            (payload ks r) (length-set q j v),
+        right,
+        append-assoc (sealed (set q j v)) (take (sizeOf ks) r)
+            (drop (sizeOf ks) r),
+        take-append-drop (sizeOf ks) r,
+      )
       (mended-sealed q r j v there near)
 
-  mended-later : (p c : ℕ) → length q ≤ j → mended r p c v ≡ framed ks (set (payload ks r) (j - length q) v) ++ drop (sizeOf ks) r → mended (sealed q ++ r) (length q + 2 + p) (length q + 2 + c) v ≡ framed (length q ∷ ks) (set (payload (length q ∷ ks) (sealed q ++ r)) j v) ++ drop (sizeOf (length q ∷ ks)) (sealed q ++ r)
+  mended-later :
+      (p c : ℕ) → length q ≤ j
+      → mended r p c v ≡ framed ks (set (payload ks r) (j - length q) v) ++ drop (sizeOf ks) r
+      → mended (sealed q ++ r) (length q + 2 + p) (length q + 2 + c) v
+      ≡ framed (length q ∷ ks) (set (payload (length q ∷ ks) (sealed q ++ r)) j v) ++ drop (sizeOf (length q ∷ ks))
+      (sealed q ++ r)
   mended-later p c far rest =
       let e : j ≡ length q + (j - length q) = omega arith in
-      let store : set (q ++ payload ks r) j v ≡ q ++ set (payload ks r) (j - length q) v = ap (λ (i : ℕ). set (q ++ payload ks r) i v) e ∙ set-append-add q (payload ks r) (j - length q) v in
-      rw (payload-whole, drop-whole, store, framed-whole q (set (payload ks r) (j - length q) v) refl, append-assoc (sealed q) (framed ks (set (payload ks r) (j - length q) v)) (drop (sizeOf ks) r), ← rest, ← length-sealed q)
+      let store : set (q ++ payload ks r) j v ≡ q ++ set (payload ks r) (j - length q) v =
+      ap (λ (i : ℕ). set (q ++ payload ks r) i v) e ∙ set-append-add q (payload ks r) (j - length q) v in
+      rw (
+        payload-whole,
+        drop-whole,
+        store,
+        framed-whole q (set (payload ks r) (j - length q) v) refl,
+        append-assoc
+            (sealed q) (framed ks (set (payload ks r) (j - length q) v)) (drop (sizeOf ks) r),
+        ← rest,
+        ← length-sealed q,
+      )
       (mended-behind (sealed q) r p c v)
 
-mended-by : (k : ℕ) (q r ks s : List ℕ) (j v : ℕ) (t : Bool) → length q ≡ k → sealed q ++ r ≡ s → k ≤ 126 → ltb j k ≡ t → framed ks (payload ks r) ≡ take (sizeOf ks) r → (k ≤ j → mended r (placeIn ks (j - k)) (checkIn ks (j - k)) v ≡ framed ks (set (payload ks r) (j - k) v) ++ drop (sizeOf ks) r) → mended s (placeIn (k ∷ ks) j) (checkIn (k ∷ ks) j) v ≡ framed (k ∷ ks) (set (payload (k ∷ ks) s) j v) ++ drop (sizeOf (k ∷ ks)) s
+mended-by :
+    (k : ℕ) (q r ks s : List ℕ) (j v : ℕ) (t : Bool) → length q ≡ k → sealed q ++ r ≡ s → k ≤ 126 → ltb j k ≡ t
+    → framed ks (payload ks r) ≡ take (sizeOf ks) r
+    → (k ≤ j → mended r (placeIn ks (j - k)) (checkIn ks (j - k)) v ≡ framed ks (set (payload ks r) (j - k) v) ++ drop
+    (sizeOf ks) r)
+    → mended s (placeIn (k ∷ ks) j) (checkIn (k ∷ ks) j) v
+    ≡ framed (k ∷ ks) (set (payload (k ∷ ks) s) j v) ++ drop (sizeOf (k ∷ ks)) s
 unfolding placeIn checkIn
 mended-by k q r ks s j v true e w near h right rest =
     rw (h, ← e, ← w) (mended-here q r ks j v (omega (arith, ltb-true j k h)) (omega arith) right)
@@ -97,12 +145,16 @@ mended-by k q r ks s j v false e w near h right rest =
     (mended-later q r ks j v (placeIn ks (j - length q)) (checkIn ks (j - length q)) (omega arith) (rw e (rest far)))
 
 -- THE law of changing: where all checks are right, mending is writing the changed payload afresh
-pub mended-framed : (b : ℕ) (ks s : List ℕ) (j v : ℕ) → sizeOf ks ≤ length s → firstWrong b ks s ≡ Right → j < total ks → widest ks ≤ 126 → mended s (placeIn ks j) (checkIn ks j) v ≡ framed ks (set (payload ks s) j v) ++ drop (sizeOf ks) s
+pub mended-framed :
+    (b : ℕ) (ks s : List ℕ) (j v : ℕ) → sizeOf ks ≤ length s → firstWrong b ks s ≡ Right → j < total ks
+    → widest ks ≤ 126
+    → mended s (placeIn ks j) (checkIn ks j) v ≡ framed ks (set (payload ks s) j v) ++ drop (sizeOf ks) s
 unfolding firstWrong sizeOf total widest
 mended-framed b [] s j v fits right there near = absurd (not-suc-le-zero there)
 mended-framed b (k ∷ ks) s j v fits right there near =
     let ok : blockOk k s ≡ true = firstWrong-head (blockOk k s) b (firstWrong (b + 1) ks (drop (k + 2) s)) right in
-    let rest : firstWrong (b + 1) ks (drop (k + 2) s) ≡ Right = firstWrong-tail (blockOk k s) b (firstWrong (b + 1) ks (drop (k + 2) s)) right in
+    let rest : firstWrong (b + 1) ks (drop (k + 2) s) ≡ Right = firstWrong-tail (blockOk k s) b
+    (firstWrong (b + 1) ks (drop (k + 2) s)) right in
     let room : sizeOf ks ≤ length (drop (k + 2) s) = simp length-drop (omega arith) in
     let whole : sealed (take k s) ++ drop (k + 2) s ≡ s = rw (sealed-take k s ok (omega arith)) (take-append-drop (k + 2) s) in
     mended-by k (take k s) (drop (k + 2) s) ks s j v (ltb j k) (length-take-le k s (omega arith)) whole (omega arith) refl
@@ -128,8 +180,11 @@ mended-touches s p q v before inside =
     let two = set one q (u / 256) in
     record {
       size = simp length-set;
-      byte = getD-set-other two (q + 1) p (u % 256) 0 (apart p (q + 1) (omega arith)) ∙ getD-set-other one q p (u / 256) 0 (apart p q before) ∙ getD-set-same s p v 0 (omega arith);
-      high = getD-set-other two (q + 1) q (u % 256) 0 (apart q (q + 1) (omega arith)) ∙ getD-set-same one q (u / 256) 0 (simp length-set (omega arith));
+      byte = getD-set-other two (q + 1) p (u % 256) 0 (apart p (q + 1) (omega arith)) ∙ getD-set-other one q p
+          (u / 256) 0 (apart p q before) ∙ getD-set-same s p v 0 (omega arith);
+      high = getD-set-other two (q + 1) q (u % 256) 0 (apart q (q + 1) (omega arith)) ∙ getD-set-same one q (u / 256)
+          0 (simp length-set (omega arith));
       low = getD-set-same two (q + 1) (u % 256) 0 (simp length-set (omega arith));
-      others = λ i np nq nl. getD-set-other two (q + 1) i (u % 256) 0 nl ∙ getD-set-other one q i (u / 256) 0 nq ∙ getD-set-other s p i v 0 np;
+      others = λ i np nq nl. getD-set-other two (q + 1) i (u % 256) 0 nl ∙ getD-set-other one q i (u / 256) 0 nq ∙
+          getD-set-other s p i v 0 np;
     }

@@ -61,11 +61,13 @@ module _ (most later left i : ℕ) (m : 0 < most) (l : 0 < later) (h : i < left)
       let e : min most left ≡ most = omega arith in
       rw e at (spans-turn most later left m l (omega arith))
 
-  pub placeIn-turn : most ≤ i → placeIn (spans most later left) i ≡ most + 2 + placeIn (spans later later (left - most)) (i - most)
+  pub placeIn-turn :
+      most ≤ i → placeIn (spans most later left) i ≡ most + 2 + placeIn (spans later later (left - most)) (i - most)
   unfolding placeIn
   placeIn-turn far = rw (whole far, le-ltb i most far)
 
-  pub checkIn-turn : most ≤ i → checkIn (spans most later left) i ≡ most + 2 + checkIn (spans later later (left - most)) (i - most)
+  pub checkIn-turn :
+      most ≤ i → checkIn (spans most later left) i ≡ most + 2 + checkIn (spans later later (left - most)) (i - most)
   unfolding checkIn
   checkIn-turn far = rw (whole far, le-ltb i most far)
 

@@ -35,7 +35,8 @@ module _ (q t : List ℕ) (k : ℕ) (e : length q ≡ k) where
   pub getD-sealed-low : getD (sealed q ++ t) (k + 1) 0 ≡ checkOf q % 256
   getD-sealed-low =
       rw (sealed-append q t, ← append-assoc q (checkOf q / 256 ∷ []) (checkOf q % 256 ∷ t))
-      (getD-at (q ++ checkOf q / 256 ∷ []) (checkOf q % 256) t 0 (k + 1) (length-append q (checkOf q / 256 ∷ []) ∙ ap (λ (n : ℕ). n + 1) e))
+      (getD-at (q ++ checkOf q / 256 ∷ []) (checkOf q % 256) t 0 (k + 1)
+      (length-append q (checkOf q / 256 ∷ []) ∙ ap (λ (n : ℕ). n + 1) e))
 
   pub blockOk-sealed : blockOk k (sealed q ++ t) ≡ true
   unfolding blockOk
@@ -65,7 +66,9 @@ module _ (s : List ℕ) (at k : ℕ) where
   unfolding blockOk
   blockOk-wrong h = rw (getD-drop at s k 0, ne-eqb (getD s (at + k) 0) (checkOf (take k (drop at s)) / 256) h)
 
-  pub blockOk-second : getD s (at + k) 0 ≡ checkOf (take k (drop at s)) / 256 → blockOk k (drop at s) ≡ eqb (getD s (at + k + 1) 0) (checkOf (take k (drop at s)) % 256)
+  pub blockOk-second :
+      getD s (at + k) 0 ≡ checkOf (take k (drop at s)) / 256
+      → blockOk k (drop at s) ≡ eqb (getD s (at + k + 1) 0) (checkOf (take k (drop at s)) % 256)
   unfolding blockOk
   blockOk-second h =
       let e : at + (k + 1) ≡ at + k + 1 = omega arith in

@@ -27,7 +27,8 @@ pub length-payload : (ks s : List ℕ) → sizeOf ks ≤ length s → length (pa
 unfolding payload sizeOf total
 length-payload [] s h = refl
 length-payload (k ∷ ks) s h =
-    let rest : length (payload ks (drop (k + 2) s)) ≡ total ks = length-payload ks (drop (k + 2) s) (simp length-drop (omega arith)) in
+    let rest : length (payload ks (drop (k + 2) s)) ≡ total ks = length-payload ks (drop (k + 2) s)
+    (simp length-drop (omega arith)) in
     rw (length-append, rest, length-take-le k s (omega arith))
 
 pub payload-framed : (ks p t : List ℕ) → length p ≡ total ks → payload ks (framed ks p ++ t) ≡ p
@@ -35,15 +36,27 @@ unfolding framed payload total
 payload-framed [] p t h = sym (drop-of-length-le p {i = 0} (omega arith))
 payload-framed (k ∷ ks) p t h =
     let e : length (take k p) ≡ k = length-take-le k p (omega arith) in
-    let rest : payload ks (framed ks (drop k p) ++ t) ≡ drop k p = payload-framed ks (drop k p) t (simp length-drop (omega arith)) in
-    rw (append-assoc, take-sealed (take k p) (framed ks (drop k p) ++ t) k e, drop-sealed (take k p) (framed ks (drop k p) ++ t) k e, rest) (take-append-drop k p)
+    let rest : payload ks (framed ks (drop k p) ++ t) ≡ drop k p = payload-framed ks (drop k p) t
+    (simp length-drop (omega arith)) in
+    rw (
+      append-assoc,
+      take-sealed (take k p) (framed ks (drop k p) ++ t) k e,
+      drop-sealed (take k p)
+          (framed ks (drop k p) ++ t) k e,
+      rest,
+    ) (take-append-drop k p)
 
 pub firstWrong-framed : (b : ℕ) (ks p t : List ℕ) → total ks ≤ length p → firstWrong b ks (framed ks p ++ t) ≡ Right
 unfolding framed firstWrong total
 firstWrong-framed b [] p t h = refl
 firstWrong-framed b (k ∷ ks) p t h =
     let e : length (take k p) ≡ k = length-take-le k p (omega arith) in
-    rw (append-assoc, blockOk-sealed (take k p) (framed ks (drop k p) ++ t) k e, drop-sealed (take k p) (framed ks (drop k p) ++ t) k e)
+    rw (
+      append-assoc,
+      blockOk-sealed (take k p) (framed ks (drop k p) ++ t) k e,
+      drop-sealed (take k p)
+          (framed ks (drop k p) ++ t) k e,
+    )
     (firstWrong-framed (b + 1) ks (drop k p) t (simp length-drop (omega arith)))
 
 -- a walk that finds no wrong check found the first one right, and goes on
@@ -55,13 +68,21 @@ pub firstWrong-tail : (t : Bool) (b : ℕ) (r : Checks) → cond t r (Wrong b) �
 firstWrong-tail true b r h = h
 firstWrong-tail false b r h = cc
 
-pub framed-payload : (b : ℕ) (ks s : List ℕ) → sizeOf ks ≤ length s → firstWrong b ks s ≡ Right → framed ks (payload ks s) ≡ take (sizeOf ks) s
+pub framed-payload :
+    (b : ℕ) (ks s : List ℕ) → sizeOf ks ≤ length s → firstWrong b ks s ≡ Right
+    → framed ks (payload ks s) ≡ take (sizeOf ks) s
 unfolding framed payload firstWrong sizeOf
 framed-payload b [] s fits right = refl
 framed-payload b (k ∷ ks) s fits right =
     let e : length (take k s) ≡ k = length-take-le k s (omega arith) in
     let ok : blockOk k s ≡ true = firstWrong-head (blockOk k s) b (firstWrong (b + 1) ks (drop (k + 2) s)) right in
     let rest : framed ks (payload ks (drop (k + 2) s)) ≡ take (sizeOf ks) (drop (k + 2) s)
-    = framed-payload (b + 1) ks (drop (k + 2) s) (simp length-drop (omega arith)) (firstWrong-tail (blockOk k s) b (firstWrong (b + 1) ks (drop (k + 2) s)) right) in
-    rw (take-at (take k s) (payload ks (drop (k + 2) s)) k e, drop-at (take k s) (payload ks (drop (k + 2) s)) k e, rest, sealed-take k s ok (omega arith))
+    = framed-payload (b + 1) ks (drop (k + 2) s) (simp length-drop (omega arith))
+    (firstWrong-tail (blockOk k s) b (firstWrong (b + 1) ks (drop (k + 2) s)) right) in
+    rw (
+      take-at (take k s) (payload ks (drop (k + 2) s)) k e,
+      drop-at (take k s) (payload ks (drop (k + 2) s)) k e,
+      rest,
+      sealed-take k s ok (omega arith),
+    )
     (sym (take-add (k + 2) (sizeOf ks) s))

@@ -16,7 +16,10 @@ use Rattle.frame.proofs.change.Statement.{statement}
 use Rattle.frame.proofs.change.Tie as tie
 
 -- what the judgement says where it accepts
-judged : (c : tie.After-size) → Judged.Accepted (c .size .given .0 .0) (c .size .given .0 .1 .0) ≡ judgeOf (c .before .before .before .before .before .args .f) (c .before .before .before .before .before .args .s .now)
+judged :
+    (c : tie.After-size)
+    → Judged.Accepted (c .size .given .0 .0) (c .size .given .0 .1 .0)
+    ≡ judgeOf (c .before .before .before .before .before .args .f) (c .before .before .before .before .before .args .s .now)
 judged c = sym (c .size .given .1) ∙ c .before .before .judge .ensures
 
 judge-requires : tie.Need-judge-requires
@@ -40,7 +43,8 @@ same-length c = search needs
 returns : tie.Need-returns
 returns c =
     let a = c .before .before .before .before .before .before .before .args in
-    changing-bad-place (a .f) (a .s .now) (a .place) (a .byte) (c .before .before .size .given .0 .0) (c .before .before .size .given .0 .1 .0) (judged (c .before .before)) (c .if1 .taken)
+    changing-bad-place (a .f) (a .s .now) (a .place) (a .byte) (c .before .before .size .given .0 .0)
+    (c .before .before .size .given .0 .1 .0) (judged (c .before .before)) (c .if1 .taken)
 
 first-requires : tie.Need-first-requires
 first-requires c κs = search needs
@@ -51,7 +55,9 @@ later-requires c κs = search needs
 add-set-byte : tie.Need-add-set-byte
 add-set-byte c =
     let a = c .before .before .before .before .before .before .before .before .before .before .args in
-    let p = accepted (a .f) (a .s .now) (c .before .before .before .before .before .size .given .0 .0) (c .before .before .before .before .before .size .given .0 .1 .0) (sym (judged (c .before .before .before .before .before))) in
+    let p = accepted (a .f) (a .s .now) (c .before .before .before .before .before .size .given .0 .0)
+    (c .before .before .before .before .before .size .given .0 .1 .0)
+    (sym (judged (c .before .before .before .before .before))) in
     omega (arith, p .0, p .1 .high, longest-byte (a .f))
 
 add-set-byte-2 : tie.Need-add-set-byte-2
@@ -61,8 +67,11 @@ set-byte-requires : tie.Need-set-byte-requires
 unfolding frameSize
 set-byte-requires c κs =
     let a = c .before .before .before .before .before .before .before .before .before .before .args in
-    let p = accepted-fits (a .f) (a .s .now) (c .before .before .before .before .before .size .given .0 .0) (c .before .before .before .before .before .size .given .0 .1 .0) (sym (judged (c .before .before .before .before .before))) in
-    let fits : frameSize (a .f) (c .before .before .before .before .before .size .given .0 .1 .0) ≤ length (a .s .now) = omega (arith, p .0, p .1) in (
+    let p = accepted-fits (a .f) (a .s .now) (c .before .before .before .before .before .size .given .0 .0)
+    (c .before .before .before .before .before .size .given .0 .1 .0)
+    (sym (judged (c .before .before .before .before .before))) in
+    let fits : frameSize (a .f) (c .before .before .before .before .before .size .given .0 .1 .0) ≤ length
+    (a .s .now) = omega (arith, p .0, p .1) in (
       (omega (arith, c .before .first .ensures, first-wide (a .f)), omega (arith, c .before .first .ensures, first-near (a .f))),
       (
         (omega (arith, c .later .ensures, later-some (a .f)), omega (arith, c .later .ensures, later-near (a .f))),
@@ -97,8 +106,16 @@ same-length-5 c = search needs
 returns-5 : tie.Need-returns-5
 returns-5 c =
     let a = c .before .before .before .before .before .before .before .before .before .before .before .before .before .args in
-    rw (c .before .before .set-byte .ensures, c .before .before .before .before .first .ensures, c .before .before .before .later .ensures)
-    (sym (change-mends (a .f) (a .s .now) (a .place) (a .byte) (c .before .before .before .before .before .before .before .before .size .given .0 .0) (c .before .before .before .before .before .before .before .before .size .given .0 .1 .0) (judged (c .before .before .before .before .before .before .before .before)) (c .before .before .before .before .before .before .if1 .left)))
+    rw (
+      c .before .before .set-byte .ensures,
+      c .before .before .before .before .first .ensures,
+      c .before .before .before .later .ensures,
+    )
+    (sym (change-mends (a .f) (a .s .now) (a .place) (a .byte)
+    (c .before .before .before .before .before .before .before .before .size .given .0 .0)
+    (c .before .before .before .before .before .before .before .before .size .given .0 .1 .0)
+    (judged (c .before .before .before .before .before .before .before .before))
+    (c .before .before .before .before .before .before .if1 .left)))
 
 pub change-spec : {M : Type 1} → statement M
 change-spec =

@@ -14,15 +14,30 @@ use Rattle.frame.proofs.judge.Statement.{statement}
 use Rattle.frame.proofs.judge.Tie as tie
 
 -- what the length byte says
-sized : (c : tie.After-size) → sizeFor (c .before .before .before .before .before .before .args .f) (getD (c .before .before .before .before .before .before .args .s .now) 0 0) ≡ FrameSize.Bytes (c .size .given .0 .0) (c .size .given .0 .1 .0)
+sized :
+    (c : tie.After-size)
+    → sizeFor (c .before .before .before .before .before .before .args .f)
+    (getD (c .before .before .before .before .before .before .args .s .now) 0 0)
+    ≡ FrameSize.Bytes (c .size .given .0 .0) (c .size .given .0 .1 .0)
 sized c = sym (c .before .before .frame-size .ensures) ∙ c .size .given .1
 
 -- where all bytes are there, the checks decide
-checked : (c : tie.After-first-wrong) → judgeOf (c .before .before .before .before .before .before .before .before .before .before .before .args .f) (c .before .before .before .before .before .before .before .before .before .before .before .args .s .now) ≡ byChecks (c .before .before .before .before .before .size .given .0 .0) (c .before .before .before .before .before .size .given .0 .1 .0) (c .first-wrong .result)
+checked :
+    (c : tie.After-first-wrong)
+    → judgeOf (c .before .before .before .before .before .before .before .before .before .before .before .args .f)
+    (c .before .before .before .before .before .before .before .before .before .before .before .args .s .now)
+    ≡ byChecks (c .before .before .before .before .before .size .given .0 .0)
+    (c .before .before .before .before .before .size .given .0 .1 .0) (c .first-wrong .result)
 checked c =
     let a = c .before .before .before .before .before .before .before .before .before .before .before .args in
-    judgeOf-whole (a .f) (a .s .now) (pos-of-ne-zero (c .before .before .before .before .before .before .before .before .before .if1 .left)) (c .before .before .before .before .before .size .given .0 .0) (c .before .before .before .before .before .size .given .0 .1 .0) (sized (c .before .before .before .before .before)) (c .before .before .before .if2 .left)
-    ∙ ap (byChecks (c .before .before .before .before .before .size .given .0 .0) (c .before .before .before .before .before .size .given .0 .1 .0)) (sym (rw (c .before .before .first .ensures, c .before .later .ensures) at (c .first-wrong .ensures)))
+    judgeOf-whole (a .f) (a .s .now)
+    (pos-of-ne-zero (c .before .before .before .before .before .before .before .before .before .if1 .left))
+    (c .before .before .before .before .before .size .given .0 .0)
+    (c .before .before .before .before .before .size .given .0 .1 .0)
+    (sized (c .before .before .before .before .before)) (c .before .before .before .if2 .left)
+    ∙ ap (byChecks (c .before .before .before .before .before .size .given .0 .0)
+    (c .before .before .before .before .before .size .given .0 .1 .0)) (sym
+    (rw (c .before .before .first .ensures, c .before .later .ensures) at (c .first-wrong .ensures)))
 
 returns : tie.Need-returns
 returns c = sym (judgeOf-empty (c .before .before .args .f) (c .before .before .args .s .now) (c .if1 .taken))
@@ -42,12 +57,16 @@ enum-told c = search needs
 returns-2 : tie.Need-returns-2
 returns-2 c =
     let a = c .before .before .before .before .before .before .args in
-    sym (judgeOf-length (a .f) (a .s .now) (pos-of-ne-zero (c .before .before .before .before .if1 .left)) (sym (c .before .before .frame-size .ensures) ∙ c .enum-told .given .1))
+    sym (judgeOf-length (a .f) (a .s .now) (pos-of-ne-zero (c .before .before .before .before .if1 .left))
+    (sym (c .before .before .frame-size .ensures) ∙ c .enum-told .given .1))
 
 returns-3 : tie.Need-returns-3
 returns-3 c =
     let a = c .before .before .before .before .before .before .before .before .args in
-    sym (judgeOf-short (a .f) (a .s .now) (pos-of-ne-zero (c .before .before .before .before .before .before .if1 .left)) (c .before .before .size .given .0 .0) (c .before .before .size .given .0 .1 .0) (sized (c .before .before)) (c .if2 .taken))
+    sym (judgeOf-short (a .f) (a .s .now)
+    (pos-of-ne-zero (c .before .before .before .before .before .before .if1 .left))
+    (c .before .before .size .given .0 .0) (c .before .before .size .given .0 .1 .0) (sized (c .before .before))
+    (c .if2 .taken))
 
 first-requires : tie.Need-first-requires
 first-requires c κs = search needs
@@ -58,14 +77,21 @@ later-requires c κs = search needs
 add-first-wrong : tie.Need-add-first-wrong
 add-first-wrong c =
     let a = c .before .before .before .before .before .before .before .before .before .before .args in
-    omega (arith, sizeFor-high (a .f) (getD (a .s .now) 0 0) (c .before .before .before .before .size .given .0 .0) (c .before .before .before .before .size .given .0 .1 .0) (sized (c .before .before .before .before)), longest-byte (a .f))
+    omega (
+      arith,
+      sizeFor-high (a .f) (getD (a .s .now) 0 0) (c .before .before .before .before .size .given .0 .0)
+          (c .before .before .before .before .size .given .0 .1 .0) (sized (c .before .before .before .before)),
+      longest-byte (a .f),
+    )
 
 first-wrong-requires : tie.Need-first-wrong-requires
 unfolding frameSize
 first-wrong-requires c κs =
     let a = c .before .before .before .before .before .before .before .before .before .before .args in
-    let p = sizeFor-bytes (a .f) (getD (a .s .now) 0 0) (c .before .before .before .before .size .given .0 .0) (c .before .before .before .before .size .given .0 .1 .0) (sized (c .before .before .before .before)) in
-    let fits : frameSize (a .f) (c .before .before .before .before .size .given .0 .1 .0) ≤ length (a .s .now) = omega (arith, p .size, c .before .before .if2 .left) in (
+    let p = sizeFor-bytes (a .f) (getD (a .s .now) 0 0) (c .before .before .before .before .size .given .0 .0)
+    (c .before .before .before .before .size .given .0 .1 .0) (sized (c .before .before .before .before)) in
+    let fits : frameSize (a .f) (c .before .before .before .before .size .given .0 .1 .0) ≤ length (a .s .now) = omega
+    (arith, p .size, c .before .before .if2 .left) in (
       rw (c .before .first .ensures) (omega (arith, first-wide (a .f))),
       (rw (c .later .ensures) (later-some (a .f)), rw (c .before .first .ensures, c .later .ensures) fits),
     )

@@ -17,7 +17,10 @@ use Rattle.frame.proofs.read.Statement.{statement}
 use Rattle.frame.proofs.read.Tie as tie
 
 -- what the judgement says where it accepts
-judged : (c : tie.After-size) → Judged.Accepted (c .size .given .0 .0) (c .size .given .0 .1 .0) ≡ judgeOf (c .before .before .before .before .before .args .f) (c .before .before .before .before .before .args .s .now)
+judged :
+    (c : tie.After-size)
+    → Judged.Accepted (c .size .given .0 .0) (c .size .given .0 .1 .0)
+    ≡ judgeOf (c .before .before .before .before .before .args .f) (c .before .before .before .before .before .args .s .now)
 judged c = sym (c .size .given .1) ∙ c .before .before .judge .ensures
 
 judge-requires : tie.Need-judge-requires
@@ -38,7 +41,8 @@ enum-known-size c = search needs
 returns : tie.Need-returns
 returns c =
     let a = c .before .before .before .before .before .before .before .args in
-    reading-no-room (a .f) (a .s .now) (a .out .now) (c .before .before .size .given .0 .0) (c .before .before .size .given .0 .1 .0) (judged (c .before .before)) (c .if1 .taken)
+    reading-no-room (a .f) (a .s .now) (a .out .now) (c .before .before .size .given .0 .0)
+    (c .before .before .size .given .0 .1 .0) (judged (c .before .before)) (c .if1 .taken)
 
 first-requires : tie.Need-first-requires
 first-requires c κs = search needs
@@ -50,12 +54,18 @@ take-out-requires : tie.Need-take-out-requires
 unfolding frameSize
 take-out-requires c κs =
     let a = c .before .before .before .before .before .before .before .before .before .before .args in
-    let p = accepted-fits (a .f) (a .s .now) (c .before .before .before .before .before .size .given .0 .0) (c .before .before .before .before .before .size .given .0 .1 .0) (sym (judged (c .before .before .before .before .before))) in
-    let fits : frameSize (a .f) (c .before .before .before .before .before .size .given .0 .1 .0) ≤ length (a .s .now) = omega (arith, p .0, p .1) in (
+    let p = accepted-fits (a .f) (a .s .now) (c .before .before .before .before .before .size .given .0 .0)
+    (c .before .before .before .before .before .size .given .0 .1 .0)
+    (sym (judged (c .before .before .before .before .before))) in
+    let fits : frameSize (a .f) (c .before .before .before .before .before .size .given .0 .1 .0) ≤ length
+    (a .s .now) = omega (arith, p .0, p .1) in (
       rw (c .before .before .first .ensures) (first-wide (a .f)),
       (
         rw (c .before .later .ensures) (later-some (a .f)),
-        (omega (arith, c .before .before .before .if1 .left), rw (c .before .before .first .ensures, c .before .later .ensures) fits),
+        (
+          omega (arith, c .before .before .before .if1 .left),
+          rw (c .before .before .first .ensures, c .before .later .ensures) fits,
+        ),
       ),
     )
 
@@ -78,8 +88,16 @@ returns-5 : tie.Need-returns-5
 unfolding contentIn
 returns-5 c =
     let a = c .before .before .before .before .before .before .before .before .before .before .before .before .before .args in
-    rw (c .before .before .take-out .ensures, c .before .before .before .before .before .first .ensures, c .before .before .before .before .later .ensures)
-    (reading-accepted (a .f) (a .s .now) (a .out .now) (c .before .before .before .before .before .before .before .before .size .given .0 .0) (c .before .before .before .before .before .before .before .before .size .given .0 .1 .0) (judged (c .before .before .before .before .before .before .before .before)) (c .before .before .before .before .before .before .if1 .left))
+    rw (
+      c .before .before .take-out .ensures,
+      c .before .before .before .before .before .first .ensures,
+      c .before .before .before .before .later .ensures,
+    )
+    (reading-accepted (a .f) (a .s .now) (a .out .now)
+    (c .before .before .before .before .before .before .before .before .size .given .0 .0)
+    (c .before .before .before .before .before .before .before .before .size .given .0 .1 .0)
+    (judged (c .before .before .before .before .before .before .before .before))
+    (c .before .before .before .before .before .before .if1 .left))
 
 pub read-spec : {M : Type 1} → statement M
 read-spec =

@@ -35,7 +35,8 @@ returns : tie.Need-returns
 returns c =
     let a = c .before .before .before .before .before .args in
     let e : a .at + a .k - a .at ≡ a .k = omega arith in
-    let r : c .before .before .check .result ≡ checkOf (take (a .k) (drop (a .at) (a .s .now))) = rw e at (c .before .before .check .ensures) in
+    let r : c .before .before .check .result ≡ checkOf (take (a .k) (drop (a .at) (a .s .now))) = rw e at
+    (c .before .before .check .ensures) in
     sym (blockOk-wrong (a .s .now) (a .at) (a .k) (rw r at (c .if1 .taken)))
 
 add-result : tie.Need-add-result
@@ -51,7 +52,8 @@ returns-2 : tie.Need-returns-2
 returns-2 c =
     let a = c .before .before .before .before .before .before .args in
     let e : a .at + a .k - a .at ≡ a .k = omega arith in
-    let r : c .before .before .before .check .result ≡ checkOf (take (a .k) (drop (a .at) (a .s .now))) = rw e at (c .before .before .before .check .ensures) in
+    let r : c .before .before .before .check .result ≡ checkOf (take (a .k) (drop (a .at) (a .s .now))) = rw e at
+    (c .before .before .before .check .ensures) in
     rw r (sym (blockOk-second (a .s .now) (a .at) (a .k) (rw r at (c .before .if1 .left))))
 
 pub block-ok-spec : {M : Type 1} → statement M

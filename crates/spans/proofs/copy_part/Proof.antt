@@ -46,7 +46,8 @@ loop-again : tie.Need-loop-again Inv-loop μ-loop
 loop-again c =
     let a = c .before .before .before .args in
     let i = c .before .before .loop .i in
-    let e : getD (a .src .now) (a .from + i) 0 ≡ getD (drop (a .from) (a .src .now)) i 0 = sym (getD-drop (a .from) (a .src .now) i 0) in (
+    let e : getD (a .src .now) (a .from + i) 0 ≡ getD (drop (a .from) (a .src .now)) i 0 = sym
+    (getD-drop (a .from) (a .src .now) i 0) in (
       omega arith,
       rw (c .before .before .loop .inv .1, e, add-one i)
           (paste-suc (a .dst .now) (a .at) (drop (a .from) (a .src .now)) i 0 (omega arith) (simp length-drop (omega arith))),
@@ -56,7 +57,8 @@ same-length : tie.Need-same-length Inv-loop μ-loop
 same-length c =
     let a = c .before .before .args in
     rw (c .before .loop .inv .1)
-    (length-paste (a .dst .now) (a .at) (drop (a .from) (a .src .now)) (c .before .loop .i) (omega arith) (simp length-drop (omega arith)))
+    (length-paste (a .dst .now) (a .at) (drop (a .from) (a .src .now)) (c .before .loop .i) (omega arith)
+    (simp length-drop (omega arith)))
 
 returns : tie.Need-returns Inv-loop μ-loop
 returns c =

@@ -16,7 +16,9 @@ use Rattle.spans.proofs.first_wrong.Tie as tie
 
 abbrev Inv-loop : tie.InvT-loop
 Inv-loop s first later t at₀ most₀ left₀ block₀ at most left block =
-    (0 < most) × ((block ≤ at + 1) × ((at + sizeOf (spans most later left) ≤ length s) × (firstWrong block (spans most later left) (drop at s) ≡ firstWrong 1 (spans first later t) s)))
+    (0 < most) × ((block ≤ at + 1) ×
+    ((at + sizeOf (spans most later left) ≤ length s) ×
+    (firstWrong block (spans most later left) (drop at s) ≡ firstWrong 1 (spans first later t) s)))
 
 abbrev μ-loop : tie.MeasureT-loop
 μ-loop s first later t at₀ most₀ left₀ block₀ at most left block = left
@@ -28,18 +30,39 @@ smaller-requires : tie.Need-smaller-requires Inv-loop μ-loop
 smaller-requires c κs = search needs
 
 -- the span at hand and all behind it lie inside the slice
-room : (c : tie.After-smaller Inv-loop μ-loop) → c .before .before .loop .at + (c .smaller .result + 2 + sizeOf (spans (c .before .before .before .before .args .later) (c .before .before .before .before .args .later) (c .before .before .loop .left - c .smaller .result))) ≤ length (c .before .before .before .before .args .s .now)
+room :
+    (c : tie.After-smaller Inv-loop μ-loop)
+    → c .before .before .loop .at +
+    (c .smaller .result + 2 + sizeOf
+    (spans (c .before .before .before .before .args .later) (c .before .before .before .before .args .later)
+    (c .before .before .loop .left - c .smaller .result))) ≤ length (c .before .before .before .before .args .s .now)
 room c =
     let a = c .before .before .before .before .args in
     let w = c .before .before .loop in
-    omega (arith, sizeOf-turn (w .most) (a .later) (w .left) (c .smaller .result) (c .smaller .ensures) (omega arith) (omega arith) (omega arith))
+    omega (
+      arith,
+      sizeOf-turn (w .most) (a .later) (w .left) (c .smaller .result) (c .smaller .ensures) (omega arith)
+          (omega arith) (omega arith),
+    )
 
 -- what is left, one span further
-turn : (c : tie.After-smaller Inv-loop μ-loop) → cond (blockOk (c .smaller .result) (drop (c .before .before .loop .at) (c .before .before .before .before .args .s .now))) (firstWrong (c .before .before .loop .block + 1) (spans (c .before .before .before .before .args .later) (c .before .before .before .before .args .later) (c .before .before .loop .left - c .smaller .result)) (drop (c .before .before .loop .at + (c .smaller .result + 2)) (c .before .before .before .before .args .s .now))) (Wrong (c .before .before .loop .block)) ≡ firstWrong 1 (spans (c .before .before .before .before .args .first) (c .before .before .before .before .args .later) (c .before .before .before .before .args .t)) (c .before .before .before .before .args .s .now)
+turn :
+    (c : tie.After-smaller Inv-loop μ-loop)
+    → cond (blockOk (c .smaller .result)
+    (drop (c .before .before .loop .at) (c .before .before .before .before .args .s .now))) (firstWrong
+    (c .before .before .loop .block + 1)
+    (spans (c .before .before .before .before .args .later) (c .before .before .before .before .args .later)
+    (c .before .before .loop .left - c .smaller .result)) (drop
+    (c .before .before .loop .at + (c .smaller .result + 2))
+    (c .before .before .before .before .args .s .now))) (Wrong (c .before .before .loop .block))
+    ≡ firstWrong 1 (spans (c .before .before .before .before .args .first)
+    (c .before .before .before .before .args .later)
+    (c .before .before .before .before .args .t)) (c .before .before .before .before .args .s .now)
 turn c =
     let a = c .before .before .before .before .args in
     let w = c .before .before .loop in
-    sym (firstWrong-turn (w .most) (a .later) (w .left) (c .smaller .result) (c .smaller .ensures) (omega arith) (omega arith) (omega arith) (w .block) (w .at) (a .s .now))
+    sym (firstWrong-turn (w .most) (a .later) (w .left) (c .smaller .result) (c .smaller .ensures) (omega arith)
+    (omega arith) (omega arith) (w .block) (w .at) (a .s .now))
     ∙ w .inv .1 .1 .1
 
 block-ok-requires : tie.Need-block-ok-requires Inv-loop μ-loop
@@ -47,7 +70,9 @@ block-ok-requires c κs = omega (arith, room c)
 
 returns : tie.Need-returns Inv-loop μ-loop
 returns c =
-    let bad : blockOk (c .before .before .smaller .result) (drop (c .before .before .before .before .loop .at) (c .before .before .before .before .before .before .args .s .now)) ≡ false
+    let bad : blockOk (c .before .before .smaller .result)
+    (drop (c .before .before .before .before .loop .at)
+    (c .before .before .before .before .before .before .args .s .now)) ≡ false
     = sym (c .before .block-ok .ensures) ∙ not-true _ (c .if1 .taken) in
     rw bad at (turn (c .before .before))
 
@@ -68,7 +93,9 @@ loop-less c = omega (arith, c .before .before .smaller .ensures)
 
 loop-again : tie.Need-loop-again Inv-loop μ-loop
 loop-again c =
-    let ok : blockOk (c .before .before .smaller .result) (drop (c .before .before .before .before .loop .at) (c .before .before .before .before .before .before .args .s .now)) ≡ true
+    let ok : blockOk (c .before .before .smaller .result)
+    (drop (c .before .before .before .before .loop .at)
+    (c .before .before .before .before .before .before .args .s .now)) ≡ true
     = sym (c .before .block-ok .ensures) ∙ not-false _ (c .if1 .left) in
     (omega arith, (omega arith, (omega (arith, room (c .before .before)), rw ok at (turn (c .before .before)))))
 

@@ -12,7 +12,10 @@ use Rattle.spans.proofs.locate.Tie as tie
 
 abbrev Inv-loop : tie.InvT-loop
 Inv-loop first later t j at₀ most₀ left₀ i₀ at most left i =
-    (0 < most) × ((i < left) × ((at + sizeOf (spans most later left) ≤ sizeOf (spans first later t)) × ((at + placeIn (spans most later left) i ≡ placeIn (spans first later t) j) × (at + checkIn (spans most later left) i ≡ checkIn (spans first later t) j))))
+    (0 < most) × ((i < left) ×
+    ((at + sizeOf (spans most later left) ≤ sizeOf (spans first later t)) ×
+    ((at + placeIn (spans most later left) i ≡ placeIn (spans first later t) j) ×
+    (at + checkIn (spans most later left) i ≡ checkIn (spans first later t) j))))
 
 abbrev μ-loop : tie.MeasureT-loop
 μ-loop first later t j at₀ most₀ left₀ i₀ at most left i = i
@@ -38,10 +41,22 @@ loop-again c = (
   (
     omega arith,
     (
-      omega (arith, sizeOf-full (c .before .loop .most) (c .before .before .args .later) (c .before .loop .left) (c .before .loop .i) (omega arith) (omega arith) (omega arith) (omega arith)),
+      omega (
+        arith,
+        sizeOf-full (c .before .loop .most) (c .before .before .args .later) (c .before .loop .left)
+            (c .before .loop .i) (omega arith) (omega arith) (omega arith) (omega arith),
+      ),
       (
-        omega (arith, placeIn-turn (c .before .loop .most) (c .before .before .args .later) (c .before .loop .left) (c .before .loop .i) (omega arith) (omega arith) (omega arith) (omega arith)),
-        omega (arith, checkIn-turn (c .before .loop .most) (c .before .before .args .later) (c .before .loop .left) (c .before .loop .i) (omega arith) (omega arith) (omega arith) (omega arith)),
+        omega (
+          arith,
+          placeIn-turn (c .before .loop .most) (c .before .before .args .later) (c .before .loop .left)
+              (c .before .loop .i) (omega arith) (omega arith) (omega arith) (omega arith),
+        ),
+        omega (
+          arith,
+          checkIn-turn (c .before .loop .most) (c .before .before .args .later) (c .before .loop .left)
+              (c .before .loop .i) (omega arith) (omega arith) (omega arith) (omega arith),
+        ),
       ),
     ),
   ),

@@ -50,7 +50,9 @@ enum-told c = search needs
 
 returns : tie.Need-returns
 returns c =
-    absurd (out-of-range (rw (le-leb (c .before .before .before .before .before .before .before .before .before .args .distance) 125 (omega arith)) at (sym (c .before .before .update .ensures .0) ∙ c .enum-told .given .1)))
+    absurd (out-of-range (rw (le-leb
+    (c .before .before .before .before .before .before .before .before .before .args .distance) 125
+    (omega arith)) at (sym (c .before .before .update .ensures .0) ∙ c .enum-told .given .1)))
 
 slice-write-s : tie.Need-slice-write-s
 slice-write-s c = search needs
@@ -78,7 +80,11 @@ unfolding updatedAt mended
 returns-2 c =
     let a = c .before .before .before .before .before .before .before .before .before .before .args in
     let u : updatedAt (a .s .now) (a .byte) (a .check) (a .v) ≡ c .before .new-check .given .0 .0
-    = ap valueOf (sym (rw (c .before .before .before .before .before .before .before .wide .ensures, c .before .before .before .before .before .wide2 .ensures, c .before .before .before .before .before .before .before .before .before .before .pre .1 .1 .0) at (c .before .before .before .update .ensures .0)) ∙ c .before .new-check .given .1) in
+    = ap valueOf (sym (rw (
+      c .before .before .before .before .before .before .before .wide .ensures,
+      c .before .before .before .before .before .wide2 .ensures,
+      c .before .before .before .before .before .before .before .before .before .before .pre .1 .1 .0,
+    ) at (c .before .before .before .update .ensures .0)) ∙ c .before .new-check .given .1) in
     rw u
 
 pub mend-spec : {M : Type 1} → statement M

@@ -13,7 +13,11 @@ use Rattle.spans.proofs.put_all.Tie as tie
 
 abbrev Inv-loop : tie.InvT-loop
 Inv-loop l c first later out₀ done₀ at₀ out done at =
-    (done ≤ length c) × ((length out ≡ length out₀) × ((at + sizeOf (spans later later (length c - done)) ≤ length out) × (filled out at (framed (spans later later (length c - done)) (drop done c)) (sizeOf (spans later later (length c - done))) ≡ filled out₀ at₀ (framed (spans later later (length c - done₀)) (drop done₀ c)) (sizeOf (spans later later (length c - done₀))))))
+    (done ≤ length c) × ((length out ≡ length out₀) ×
+    ((at + sizeOf (spans later later (length c - done)) ≤ length out) ×
+    (filled out at (framed (spans later later (length c - done)) (drop done c))
+    (sizeOf (spans later later (length c - done))) ≡ filled out₀ at₀
+    (framed (spans later later (length c - done₀)) (drop done₀ c)) (sizeOf (spans later later (length c - done₀))))))
 
 abbrev μ-loop : tie.MeasureT-loop
 μ-loop l c first later out₀ done₀ at₀ out done at = length c - done
@@ -25,7 +29,12 @@ smaller-requires : tie.Need-smaller-requires Inv-loop μ-loop
 smaller-requires c κs = search needs
 
 -- the first span and all behind it lie inside the slice
-first-room : (c : tie.After-smaller Inv-loop μ-loop) → c .smaller .result + 3 + sizeOf (spans (c .before .before .before .args .later) (c .before .before .before .args .later) (length (c .before .before .before .args .c .now) - c .smaller .result)) ≤ length (c .before .before .before .args .out .now)
+first-room :
+    (c : tie.After-smaller Inv-loop μ-loop)
+    → c .smaller .result + 3 + sizeOf
+    (spans (c .before .before .before .args .later) (c .before .before .before .args .later)
+    (length (c .before .before .before .args .c .now) -
+    c .smaller .result)) ≤ length (c .before .before .before .args .out .now)
 first-room c =
     let a = c .before .before .before .args in
     rw (c .smaller .ensures) (omega (arith, sizeOf-first (a .first) (a .later) (length (a .c .now)) (omega arith) (omega arith)))
@@ -49,11 +58,22 @@ smaller-requires-2 : tie.Need-smaller-requires-2 Inv-loop μ-loop
 smaller-requires-2 c κs = search needs
 
 -- the span at hand and all behind it lie inside the slice
-room : (c : tie.After-smaller2 Inv-loop μ-loop) → c .before .before .loop .at + (c .smaller2 .result + 2 + sizeOf (spans (c .before .before .before .before .before .before .before .before .before .before .args .later) (c .before .before .before .before .before .before .before .before .before .before .args .later) (length (c .before .before .before .before .before .before .before .before .before .before .args .c .now) - c .before .before .loop .done - c .smaller2 .result))) ≤ length (c .before .before .loop .out)
+room :
+    (c : tie.After-smaller2 Inv-loop μ-loop)
+    → c .before .before .loop .at +
+    (c .smaller2 .result + 2 + sizeOf
+    (spans (c .before .before .before .before .before .before .before .before .before .before .args .later)
+    (c .before .before .before .before .before .before .before .before .before .before .args .later)
+    (length (c .before .before .before .before .before .before .before .before .before .before .args .c .now) -
+    c .before .before .loop .done - c .smaller2 .result))) ≤ length (c .before .before .loop .out)
 room c =
     let a = c .before .before .before .before .before .before .before .before .before .before .args in
     let w = c .before .before .loop in
-    omega (arith, sizeOf-turn (a .later) (a .later) (length (a .c .now) - w .done) (c .smaller2 .result) (c .smaller2 .ensures) (omega arith) (omega arith) (omega arith))
+    omega (
+      arith,
+      sizeOf-turn (a .later) (a .later) (length (a .c .now) - w .done) (c .smaller2 .result)
+          (c .smaller2 .ensures) (omega arith) (omega arith) (omega arith),
+    )
 
 put-span-requires : tie.Need-put-span-requires Inv-loop μ-loop
 put-span-requires c κs = (omega (arith, c .before .smaller2 .ensures), omega (arith, room (c .before)))
@@ -82,7 +102,9 @@ loop-again c =
         (
           rw e (omega (arith, room (c .before .before .before .before), c .before .before .put-span .kept .1 .1 .1 .0)),
           rw (e, c .before .before .put-span .ensures)
-              (written-turn (a .later) (a .later) (length (a .c .now) - w .done) (small .result) (small .ensures) (omega arith) (omega arith) (omega arith) (w .at) (w .done) (a .c .now) (w .out) (omega (arith, small .ensures)) (omega (arith, room (c .before .before .before .before)))
+              (written-turn (a .later) (a .later) (length (a .c .now) - w .done) (small .result) (small .ensures)
+              (omega arith) (omega arith) (omega arith) (w .at) (w .done) (a .c .now) (w .out)
+              (omega (arith, small .ensures)) (omega (arith, room (c .before .before .before .before)))
               ∙ w .inv .1 .1 .1),
         ),
       ),
@@ -99,7 +121,10 @@ returns c =
     let none : length (a .c .now) - w .done ≡ 0 = omega arith in
     sym (filled-end (w .out) (w .at))
     ∙ rw none at (w .inv .1 .1 .1)
-    ∙ rw (c .before .before .before .before .put-first .ensures, c .before .before .before .before .before .before .smaller .ensures)
+    ∙ rw (
+      c .before .before .before .before .put-first .ensures,
+      c .before .before .before .before .before .before .smaller .ensures,
+    )
     (written-first (a .first) (a .later) (length (a .c .now)) (omega arith) (omega arith) (a .l) (a .c .now) (a .out .now) refl)
 
 pub put-all-spec : {M : Type 1} → statement M

@@ -11,10 +11,15 @@ use Rattle.spans.proofs.set_byte.Statement.{statement}
 use Rattle.spans.proofs.set_byte.Tie as tie
 
 -- the byte stands inside its span, the span inside the slice, and the span is at most 126 bytes long
-inside : (c : tie.After-locate) → (c .locate .result .offset < c .locate .result .length) × ((c .locate .result .start + c .locate .result .length + 2 ≤ length (c .before .before .args .s .now)) × (c .locate .result .length ≤ c .locate .result .offset + 126))
+inside :
+    (c : tie.After-locate)
+    → (c .locate .result .offset < c .locate .result .length) ×
+    ((c .locate .result .start + c .locate .result .length + 2 ≤ length (c .before .before .args .s .now)) ×
+    (c .locate .result .length ≤ c .locate .result .offset + 126))
 inside c =
     let a = c .before .before .args in
-    let p = placed (spans (a .first) (a .later) (a .t)) (a .j) (omega (arith, total-spans (a .first) (a .later) (a .t) (omega arith) (omega arith))) in
+    let p = placed (spans (a .first) (a .later) (a .t)) (a .j)
+    (omega (arith, total-spans (a .first) (a .later) (a .t) (omega arith) (omega arith))) in
     let near = widest-spans 126 (a .first) (a .later) (a .t) (omega arith) (omega arith) in
     let e = c .locate .ensures in
     (omega (arith, p .before, e .0, e .1), (omega (arith, p .inside, e .1), omega (arith, p .near, near, e .0, e .1)))

@@ -14,7 +14,11 @@ use Rattle.spans.proofs.take_out.Tie as tie
 
 abbrev Inv-loop : tie.InvT-loop
 Inv-loop s first later n out₀ at₀ most₀ done₀ out at most done =
-    (done ≤ n) × ((0 < most) × ((length out ≡ length out₀) × ((at + sizeOf (spans most later (n - done)) ≤ length s) × (filled out done (payload (spans most later (n - done)) (drop at s)) (n - done) ≡ filled out₀ 0 (payload (spans (first - 1) later n) (drop 1 s)) n))))
+    (done ≤ n) × ((0 < most) ×
+    ((length out ≡ length out₀) ×
+    ((at + sizeOf (spans most later (n - done)) ≤ length s) ×
+    (filled out done (payload (spans most later (n - done)) (drop at s)) (n - done) ≡ filled out₀ 0
+    (payload (spans (first - 1) later n) (drop 1 s)) n))))
 
 abbrev μ-loop : tie.MeasureT-loop
 μ-loop s first later n out₀ at₀ most₀ done₀ out at most done = n - done
@@ -45,11 +49,22 @@ smaller-requires : tie.Need-smaller-requires Inv-loop μ-loop
 smaller-requires c κs = search needs
 
 -- the span at hand and all behind it lie inside the slice
-room : (c : tie.After-smaller Inv-loop μ-loop) → c .before .before .loop .at + (c .smaller .result + 2 + sizeOf (spans (c .before .before .before .before .before .args .later) (c .before .before .before .before .before .args .later) (c .before .before .before .before .before .args .n - c .before .before .loop .done - c .smaller .result))) ≤ length (c .before .before .before .before .before .args .s .now)
+room :
+    (c : tie.After-smaller Inv-loop μ-loop)
+    → c .before .before .loop .at +
+    (c .smaller .result + 2 + sizeOf
+    (spans (c .before .before .before .before .before .args .later)
+    (c .before .before .before .before .before .args .later)
+    (c .before .before .before .before .before .args .n - c .before .before .loop .done -
+    c .smaller .result))) ≤ length (c .before .before .before .before .before .args .s .now)
 room c =
     let a = c .before .before .before .before .before .args in
     let w = c .before .before .loop in
-    omega (arith, sizeOf-turn (w .most) (a .later) (a .n - w .done) (c .smaller .result) (c .smaller .ensures) (omega arith) (omega arith) (omega arith))
+    omega (
+      arith,
+      sizeOf-turn (w .most) (a .later) (a .n - w .done) (c .smaller .result) (c .smaller .ensures)
+          (omega arith) (omega arith) (omega arith),
+    )
 
 copy-part-requires : tie.Need-copy-part-requires Inv-loop μ-loop
 copy-part-requires c κs = (omega (arith, room (c .before)), omega (arith, c .before .smaller .ensures, c .before .before .before .loop .inv .1 .1 .0))
@@ -80,7 +95,10 @@ loop-again c =
           (
             rw e (omega (arith, room (c .before .before .before .before))),
             rw (e, c .before .before .copy-part .ensures)
-                (copied-turn (w .most) (a .later) (a .n - w .done) (small .result) (small .ensures) (omega arith) (omega arith) (omega arith) (w .at) (w .done) (a .s .now) (w .out) (omega (arith, room (c .before .before .before .before))) (omega (arith, small .ensures, w .inv .1 .1 .0))
+                (copied-turn (w .most) (a .later) (a .n - w .done) (small .result) (small .ensures) (omega arith)
+                (omega arith) (omega arith) (w .at) (w .done) (a .s .now) (w .out)
+                (omega (arith, room (c .before .before .before .before)))
+                (omega (arith, small .ensures, w .inv .1 .1 .0))
                 ∙ w .inv .1 .1 .1 .1),
           ),
         ),
@@ -99,7 +117,8 @@ returns c =
     sym (filled-end (w .out) (w .done))
     ∙ rw none at (w .inv .1 .1 .1 .1)
     ∙ filled-start (a .out .now) (payload (spans (a .first - 1) (a .later) (a .n)) (drop 1 (a .s .now))) (a .n)
-    ∙ rw (payload-behind (a .first) (a .later) (a .n) (omega arith) (omega arith) (a .s .now) (omega (arith, sizeOf-behind (a .first) (a .later) (a .n) (omega arith) (omega arith))))
+    ∙ rw (payload-behind (a .first) (a .later) (a .n) (omega arith) (omega arith) (a .s .now)
+    (omega (arith, sizeOf-behind (a .first) (a .later) (a .n) (omega arith) (omega arith))))
 
 pub take-out-spec : {M : Type 1} → statement M
 take-out-spec =
