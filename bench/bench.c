@@ -1,0 +1,164 @@
+/* The exported functions against plain C twins, in one interleaved run: each round times both one after the other on the
+ * same input, and the medians over all rounds are compared. Buffers are warm and not cleared between calls.
+ *   bench              the table, and growth at five sizes
+ *   bench names        the rows' names
+ *   bench count NAME   one call of each side, for an instruction count by callgrind */
+#define _POSIX_C_SOURCE 199309L
+#include "../include/kusikhut.h"
+#include "twins.h"
+#include <stdio.h>
+#include <stdlib.h>
+#include <string.h>
+#include <time.h>
+
+enum { ROUNDS = 401, CONTENT = 255, FRAME = 290 };
+
+static uint8_t noise[1024], content[CONTENT], frame[FRAME], frame_twin[FRAME], chips[1024], out[FRAME], span[128];
+static size_t chips_len, sized = 1024;
+static volatile uint64_t sink;
+static uint64_t r[7];
+static size_t a, b;
+
+/* Inputs that do not depend on the time: a small generator with a fixed start. */
+static uint32_t state = 20261115;
+static uint8_t next_byte(void) {
+    state ^= state << 13;
+    state ^= state >> 17;
+    state ^= state << 5;
+    return (uint8_t)(state >> 11);
+}
+
+/* Kept apart so that callgrind can count each. */
+#define NOINLINE static __attribute__((noinline))
+NOINLINE void check16_ours(void) { sink += kusikhut_check(span, 16); }
+NOINLINE void check16_other(void) { sink += twin_check(span, 16); }
+NOINLINE void check128_ours(void) { sink += kusikhut_check(span, 128); }
+NOINLINE void check128_other(void) { sink += twin_check(span, 128); }
+NOINLINE void search_ours(void) { sink += kusikhut_search(noise, sized, 0, 8192, r); }
+NOINLINE void search_other(void) { sink += (uint64_t)twin_search(noise, sized, 0, 8192, &a, &b); }
+NOINLINE void receive_ours(void) { sink += kusikhut_receive(chips, chips_len, 0, 8192, out, sizeof out, r); }
+NOINLINE void receive_other(void) { sink += (uint64_t)twin_receive_t(chips, chips_len, 0, 8192, out, sizeof out, &a); }
+NOINLINE void read_ours(void) { sink += kusikhut_read_a(frame, sizeof frame, out, sizeof out, r); }
+NOINLINE void read_other(void) { sink += (uint64_t)twin_read_a(frame, sizeof frame, out, sizeof out, &a); }
+NOINLINE void write_ours(void) { sink += kusikhut_write_a(content, sizeof content, frame_twin, sizeof frame_twin, r); }
+NOINLINE void write_other(void) { sink += (uint64_t)twin_write_a(content, sizeof content, frame_twin, sizeof frame_twin); }
+NOINLINE void change_ours(void) { sink += kusikhut_change_a(frame, sizeof frame, 100, (uint8_t)sink, r); }
+NOINLINE void change_other(void) { sink += kusikhut_read_a(frame, sizeof frame, out, sizeof out, r); }
+NOINLINE void update_ours(void) { sink += kusikhut_update(0x1234, 1, (uint8_t)sink, 125, r); }
+NOINLINE void update_other(void) { sink += twin_check_after(span, 126, 0, (uint8_t)sink); }
+
+typedef void (*Call)(void);
+static const struct {
+    const char *name, *ours, *against;
+    Call first, second;
+    double most;
+} rows[] = {
+    {"check16", "check of 16 bytes", "C, table of 256", check16_ours, check16_other, 1.1},
+    {"check128", "check of 128 bytes", "C, table of 256", check128_ours, check128_other, 1.1},
+    {"receive", "receive a 290-byte T frame", "C: rolling search, 64-entry decoder, table check", receive_ours,
+     receive_other, 1.0},
+    {"search", "search 8,192 chips, no match", "C, rolling register", search_ours, search_other, 0.5},
+    {"read", "read a 290-byte A frame", "C, table check", read_ours, read_other, 1.2},
+    {"write", "write a 290-byte A frame", "C, table check", write_ours, write_other, 1.2},
+    {"change", "change a byte of it", "our own read", change_ours, change_other, 1.2},
+    {"update", "check update at distance 125", "C, 126-byte check anew", update_ours, update_other, 0.5},
+};
+enum { ROWS = sizeof rows / sizeof *rows };
+
+static double now(void) {
+    struct timespec t;
+    clock_gettime(CLOCK_MONOTONIC, &t);
+    return (double)t.tv_sec * 1e9 + (double)t.tv_nsec;
+}
+
+static double timed(Call call, int times) {
+    double from = now();
+    for (int i = 0; i < times; i++) call();
+    return (now() - from) / times;
+}
+
+static int ascending(const void *x, const void *y) {
+    double d = *(const double *)x - *(const double *)y;
+    return (d > 0) - (d < 0);
+}
+
+static void medians(Call first, Call second, double *m1, double *m2) {
+    static double t1[ROUNDS], t2[ROUNDS];
+    double once = timed(first, 64);
+    int times = once < 50 ? 2000 : once < 1000 ? 200 : 20;
+    for (int i = 0; i < ROUNDS; i++) {
+        t1[i] = timed(first, times);
+        t2[i] = timed(second, times);
+    }
+    qsort(t1, ROUNDS, sizeof *t1, ascending);
+    qsort(t2, ROUNDS, sizeof *t2, ascending);
+    *m1 = t1[ROUNDS / 2];
+    *m2 = t2[ROUNDS / 2];
+}
+
+static void prepare(void) {
+    twins_init();
+    for (size_t i = 0; i < sizeof noise; i++) noise[i] = next_byte();
+    for (size_t i = 0; i < sizeof span; i++) span[i] = next_byte();
+    for (size_t i = 0; i < sizeof content; i++) content[i] = next_byte();
+    /* No sync word in the noise: its first byte never stands in it, at whatever chip. */
+    for (size_t p, t; twin_search(noise, sizeof noise, 0, 8192, &p, &t) == 0;) noise[p / 8] ^= 0xFF;
+    if (kusikhut_write_a(content, sizeof content, frame, sizeof frame, r) != 0) exit(1);
+    if (kusikhut_send_t_a(content, sizeof content, chips, sizeof chips, r) != 0) exit(1);
+    chips_len = r[0];
+}
+
+/* Both sides must do the same work, or their times say nothing. */
+static int same_answers(void) {
+    uint8_t ours[FRAME] = {0}, twins[FRAME] = {0};
+    size_t n = 0, p = 0, t = 0;
+    if (kusikhut_check(span, 128) != twin_check(span, 128)) return 0;
+    if (kusikhut_receive(chips, chips_len, 0, 8192, ours, FRAME, r) != 0) return 0;
+    if (twin_receive_t(chips, chips_len, 0, 8192, twins, FRAME, &n) != 0 || n != r[4]) return 0;
+    if (memcmp(ours, twins, FRAME) != 0) return 0;
+    if (kusikhut_search(noise, 1024, 0, 8192, r) != 7 || twin_search(noise, 1024, 0, 8192, &p, &t) != 7 || r[1] != t) return 0;
+    if (twin_write_a(content, CONTENT, twins, FRAME) != 0 || memcmp(frame, twins, FRAME) != 0) return 0;
+    return 1;
+}
+
+static void growth(void) {
+    printf("\n| search, chips tried | ns | ns a chip |\n|---|---|---|\n");
+    for (sized = 64; sized <= 1024; sized *= 2) {
+        double m, unused;
+        medians(search_ours, search_ours, &m, &unused);
+        printf("| %zu | %.0f | %.3f |\n", 8 * sized - 15, m, m / (double)(8 * sized - 15));
+    }
+    printf("\n| receive, content bytes | ns | ns a byte |\n|---|---|---|\n");
+    for (size_t n = 15; n <= 255; n += 60) {
+        double m, unused;
+        if (kusikhut_send_t_a(content, n, chips, sizeof chips, r) != 0) exit(1);
+        chips_len = r[0];
+        medians(receive_ours, receive_ours, &m, &unused);
+        printf("| %zu | %.0f | %.2f |\n", n, m, m / (double)n);
+    }
+}
+
+int main(int argc, char **argv) {
+    prepare();
+    if (!same_answers()) {
+        puts("the twins answer otherwise: nothing was measured");
+        return 1;
+    }
+    for (size_t i = 0; argc == 2 && i < ROWS; i++) puts(rows[i].name);
+    if (argc == 2) return 0;
+    for (size_t i = 0; argc == 3 && i < ROWS; i++)
+        if (strcmp(argv[2], rows[i].name) == 0) {
+            rows[i].first();
+            rows[i].second();
+            return 0;
+        }
+    printf("| ours | against | ours, ns | other, ns | ratio | to reach | |\n|---|---|---|---|---|---|---|\n");
+    for (size_t i = 0; i < ROWS; i++) {
+        double m1, m2;
+        medians(rows[i].first, rows[i].second, &m1, &m2);
+        printf("| %s | %s | %.1f | %.1f | %.2f | %.1f | %s |\n", rows[i].ours, rows[i].against, m1, m2, m1 / m2, rows[i].most,
+               m1 / m2 <= rows[i].most ? "met" : "missed");
+    }
+    growth();
+    return 0;
+}

@@ -1,0 +1,128 @@
+/* See twins.h. Answers are document 01's numbers; the twins look at no more than the benchmark needs. */
+#include "twins.h"
+#include <string.h>
+
+static uint16_t crc_table[256];
+static uint8_t half_of[64]; /* the half-byte of a code word, 255 for no code word */
+
+static const uint8_t words[16] = {22, 13, 14, 11, 28, 25, 26, 19, 44, 37, 38, 35, 52, 49, 50, 41};
+
+void twins_init(void) {
+    for (unsigned b = 0; b < 256; b++) {
+        uint16_t r = (uint16_t)(b << 8);
+        for (int k = 0; k < 8; k++) r = (uint16_t)((r & 0x8000) ? (r << 1) ^ 0x3D65 : r << 1);
+        crc_table[b] = r;
+    }
+    memset(half_of, 255, sizeof half_of);
+    for (unsigned k = 0; k < 16; k++) half_of[words[k]] = (uint8_t)k;
+}
+
+uint16_t twin_check(const uint8_t *s, size_t n) {
+    uint16_t r = 0;
+    for (size_t i = 0; i < n; i++) r = (uint16_t)((r << 8) ^ crc_table[(r >> 8) ^ s[i]]);
+    return (uint16_t)~r;
+}
+
+/* Working the check of a changed span anew, for comparison with the update. */
+uint16_t twin_check_after(uint8_t *span, size_t n, size_t place, uint8_t byte) {
+    span[place] = byte;
+    return twin_check(span, n);
+}
+
+/* A register that takes one chip a step. */
+int twin_search(const uint8_t *chips, size_t len, size_t start, size_t allowance, size_t *place, size_t *tried) {
+    size_t count = 8 * len, i = start, filled = 0, done = 0;
+    uint16_t reg = 0;
+    while (i < count && done < allowance) {
+        reg = (uint16_t)(reg << 1 | (chips[i >> 3] >> (7 - (i & 7)) & 1));
+        i++;
+        if (++filled >= 16) {
+            done++;
+            if (reg == 0x543D) {
+                *place = i - 16;
+                *tried = done;
+                return 0;
+            }
+        }
+    }
+    *tried = done;
+    return i >= count ? 7 : 14;
+}
+
+static unsigned six(const uint8_t *chips, size_t len, size_t at) {
+    size_t k = at >> 3;
+    unsigned two = (unsigned)chips[k] << 8 | (k + 1 < len ? chips[k + 1] : 0u);
+    return two >> (10 - (at & 7)) & 63;
+}
+
+int twin_decode_three_of_six(const uint8_t *chips, size_t len, size_t start, size_t n, uint8_t *out) {
+    if (start + 12 * n > 8 * len) return 1;
+    for (size_t i = 0; i < n; i++) {
+        uint8_t high = half_of[six(chips, len, start + 12 * i)], low = half_of[six(chips, len, start + 12 * i + 6)];
+        if ((high | low) & 0x80) return 6;
+        out[i] = (uint8_t)(high << 4 | low);
+    }
+    return 0;
+}
+
+static size_t size_a(size_t n) { return n + 3 + 2 * ((n - 9 + 15) / 16); }
+
+int twin_read_a(const uint8_t *s, size_t len, uint8_t *out, size_t out_len, size_t *n) {
+    if (len == 0) return 1;
+    size_t l = s[0];
+    if (l < 10) return 2;
+    if (len < size_a(l)) return 1;
+    for (size_t at = 0, left = l + 1, k = 10; left > 0; k = left < 16 ? left : 16) {
+        uint16_t c = twin_check(s + at, k);
+        if (s[at + k] != c >> 8 || s[at + k + 1] != (c & 255)) return 3;
+        at += k + 2;
+        left -= k;
+    }
+    if (out_len < l) return 4;
+    memcpy(out, s + 1, 9);
+    for (size_t at = 12, done = 9; done < l;) {
+        size_t k = l - done < 16 ? l - done : 16;
+        memcpy(out + done, s + at, k);
+        done += k;
+        at += k + 2;
+    }
+    *n = l;
+    return 0;
+}
+
+static size_t put_block(uint8_t *out, size_t at, size_t k) {
+    uint16_t c = twin_check(out + at, k);
+    out[at + k] = (uint8_t)(c >> 8);
+    out[at + k + 1] = (uint8_t)c;
+    return at + k + 2;
+}
+
+int twin_write_a(const uint8_t *content, size_t n, uint8_t *out, size_t out_len) {
+    if (n < 10 || n > 255) return 5;
+    if (out_len < size_a(n)) return 4;
+    out[0] = (uint8_t)n;
+    memcpy(out + 1, content, 9);
+    size_t at = put_block(out, 0, 10);
+    for (size_t done = 9; done < n;) {
+        size_t k = n - done < 16 ? n - done : 16;
+        memcpy(out + at, content + done, k);
+        at = put_block(out, at, k);
+        done += k;
+    }
+    return 0;
+}
+
+int twin_receive_t(const uint8_t *chips, size_t len, size_t start, size_t allowance, uint8_t *out, size_t out_len,
+                   size_t *n) {
+    size_t place, tried;
+    uint8_t frame[290];
+    int a = twin_search(chips, len, start, allowance, &place, &tried);
+    if (a) return a;
+    a = twin_decode_three_of_six(chips, len, place + 16, 1, frame);
+    if (a) return a;
+    if (frame[0] < 10) return 2;
+    size_t size = size_a(frame[0]);
+    a = twin_decode_three_of_six(chips, len, place + 16, size, frame);
+    if (a) return a;
+    return twin_read_a(frame, size, out, out_len, n);
+}

@@ -1,0 +1,21 @@
+use borrow.Author.Needs.{needs}
+use Rattle.kusikhut.proofs.checks.values.Statement.{statement}
+use Rattle.kusikhut.proofs.checks.values.Tie as tie
+
+enum-known-a : tie.Need-enum-known-a
+enum-known-a c = search needs
+
+cast-t4 : tie.Need-cast-t4
+cast-t4 c = search needs
+
+enum-told : tie.Need-enum-told
+enum-told c = search needs
+
+returns : tie.Need-returns
+returns c = rw (c .before .a .given .1)
+
+returns-2 : tie.Need-returns-2
+returns-2 c = search needs
+
+pub values-spec : {M : Type 1} → statement M
+values-spec = tie.close (tie.spec enum-known-a cast-t4 enum-told returns returns-2)

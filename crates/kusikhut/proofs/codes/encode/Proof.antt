@@ -1,0 +1,23 @@
+use borrow.Author.Needs.{needs}
+use Rattle.kusikhut.proofs.codes.encode.Statement.{statement}
+use Rattle.kusikhut.proofs.codes.encode.Tie as tie
+
+encode-requires : tie.Need-encode-requires
+encode-requires c κs = search needs
+
+encode-values-requires : tie.Need-encode-values-requires
+encode-values-requires c κs = search needs
+
+encode-number-requires : tie.Need-encode-number-requires
+encode-number-requires c κs = search needs
+
+same-length : tie.Need-same-length
+same-length c = search needs
+
+returns : tie.Need-returns
+returns c = cc
+
+pub encode-spec : {M : Type 1} → statement M
+encode-spec =
+    tie.close
+    (tie.spec encode-requires encode-values-requires encode-number-requires same-length returns)

@@ -1,0 +1,23 @@
+use borrow.Author.Needs.{needs}
+use Rattle.kusikhut.proofs.frames.change.Statement.{statement}
+use Rattle.kusikhut.proofs.frames.change.Tie as tie
+
+change-requires : tie.Need-change-requires
+change-requires c κs = search needs
+
+change-values-requires : tie.Need-change-values-requires
+change-values-requires c κs = search needs
+
+change-number-requires : tie.Need-change-number-requires
+change-number-requires c κs = search needs
+
+same-length : tie.Need-same-length
+same-length c = search needs
+
+returns : tie.Need-returns
+returns c = cc
+
+pub change-spec : {M : Type 1} → statement M
+change-spec =
+    tie.close
+    (tie.spec change-requires change-values-requires change-number-requires same-length returns)

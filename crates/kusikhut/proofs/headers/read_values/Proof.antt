@@ -1,0 +1,31 @@
+use mathlib.Core.Path.{_∙_, ap, sym}
+use borrow.Author.Needs.{needs}
+use Rattle.kusikhut.specs.Values.{headerValues}
+use Rattle.kusikhut.proofs.headers.read_values.Statement.{statement}
+use Rattle.kusikhut.proofs.headers.read_values.Tie as tie
+
+enum-known-a : tie.Need-enum-known-a
+enum-known-a c = search needs
+
+fields-requires : tie.Need-fields-requires
+fields-requires c κs = search needs
+
+enum-told : tie.Need-enum-told
+enum-told c = search needs
+
+enum-told-2 : tie.Need-enum-told-2
+enum-told-2 c = search needs
+
+returns : tie.Need-returns
+returns c = c .fields .ensures ∙ ap headerValues (sym (c .before .before .a .given .1))
+
+returns-2 : tie.Need-returns-2
+returns-2 c = search needs
+
+returns-3 : tie.Need-returns-3
+returns-3 c = search needs
+
+pub read-values-spec : {M : Type 1} → statement M
+read-values-spec =
+    tie.close
+    (tie.spec enum-known-a fields-requires enum-told enum-told-2 returns returns-2 returns-3)

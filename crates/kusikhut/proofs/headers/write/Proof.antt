@@ -1,0 +1,23 @@
+use borrow.Author.Needs.{needs}
+use Rattle.kusikhut.proofs.headers.write.Statement.{statement}
+use Rattle.kusikhut.proofs.headers.write.Tie as tie
+
+write-requires : tie.Need-write-requires
+write-requires c κs = search needs
+
+write-values-requires : tie.Need-write-values-requires
+write-values-requires c κs = search needs
+
+write-number-requires : tie.Need-write-number-requires
+write-number-requires c κs = search needs
+
+same-length : tie.Need-same-length
+same-length c = search needs
+
+returns : tie.Need-returns
+returns c = cc
+
+pub write-spec : {M : Type 1} → statement M
+write-spec =
+    tie.close
+    (tie.spec write-requires write-values-requires write-number-requires same-length returns)

@@ -1,0 +1,23 @@
+use borrow.Author.Needs.{needs}
+use Rattle.kusikhut.proofs.reception.kusikhut_receive.Statement.{statement}
+use Rattle.kusikhut.proofs.reception.kusikhut_receive.Tie as tie
+
+receive-requires : tie.Need-receive-requires
+receive-requires c κs = search needs
+
+receive-values-requires : tie.Need-receive-values-requires
+receive-values-requires c κs = search needs
+
+receive-number-requires : tie.Need-receive-number-requires
+receive-number-requires c κs = search needs
+
+same-length : tie.Need-same-length
+same-length c = search needs
+
+returns : tie.Need-returns
+returns c = cc
+
+pub kusikhut-receive-spec : {M : Type 1} → statement M
+kusikhut-receive-spec =
+    tie.close
+    (tie.spec receive-requires receive-values-requires receive-number-requires same-length returns)

@@ -1,0 +1,40 @@
+use borrow.Author.Needs.{needs}
+use Rattle.kusikhut.proofs.searching.values.Statement.{statement}
+use Rattle.kusikhut.proofs.searching.values.Tie as tie
+
+enum-known-a : tie.Need-enum-known-a
+enum-known-a c = search needs
+
+enum-known-a-2 : tie.Need-enum-known-a-2
+enum-known-a-2 c = search needs
+
+enum-known-a-3 : tie.Need-enum-known-a-3
+enum-known-a-3 c = search needs
+
+enum-told : tie.Need-enum-told
+enum-told c = search needs
+
+returns : tie.Need-returns
+returns c = rw (c .before .a .given .1)
+
+returns-2 : tie.Need-returns-2
+returns-2 c = rw (c .before .a2 .given .1)
+
+returns-3 : tie.Need-returns-3
+returns-3 c = rw (c .before .a3 .given .1)
+
+returns-4 : tie.Need-returns-4
+returns-4 c = search needs
+
+pub values-spec : {M : Type 1} → statement M
+values-spec =
+    tie.close
+    (tie.spec
+    enum-known-a
+    enum-known-a-2
+    enum-known-a-3
+    enum-told
+    returns
+    returns-2
+    returns-3
+    returns-4)

@@ -1,0 +1,145 @@
+/* Kusikhut: the proved wireless M-Bus link layer (EN 13757-4:2019) for C.
+ *
+ * Link with libkusikhut.a, which `rt staticlib kusikhut` writes to target/staticlib/.
+ *
+ * What a caller must see to, and nothing else:
+ *  - Every pointer is valid for its length and not NULL, also where the length is 0.
+ *  - `results` points to as many numbers as its array bound says.
+ *  - Memory that is lent to be written (out, frame, results) overlaps nothing else of the call.
+ * Every value of every number is allowed: any place, size, allowance, count or byte gets an answer. No call
+ * stops the program, keeps a pointer, or reads past a length.
+ *
+ * Every function that returns `uint8_t` gives the answer's number, 0 for accepted:
+ *    1 bytes or chips end too early    2 length byte not allowed     3 a block check is wrong
+ *    4 lent output too small           5 content length not allowed  6 not a code word
+ *    7 every position tried, no sync   8 sync tail unknown           9 change place not below n
+ *   10 out of range (received chip buffer over 1,024 bytes, start above the chip count, filter count over 16,
+ *      check distance over 125)       11 CI is none of the four     12 body shorter than its header, or empty
+ *   13 no such channel                14 allowance used up, positions left, no sync
+ * A refusal (any number but 0) changes no byte of lent memory. `results` is always written whole: the values named
+ * below in this order, zero where the answer has no such value.
+ *
+ * A chip buffer holds its first chip in the highest bit of its first byte; a chip place counts from 0. */
+#ifndef KUSIKHUT_H
+#define KUSIKHUT_H
+
+#include <stddef.h>
+#include <stdint.h>
+
+#ifdef __cplusplus
+extern "C" {
+#endif
+
+/* Line codes alone. Decoding n bytes from chip `start` on: 0, or 10, 1, 6, 4 in this order.
+ * results[0]: for 6 the bad word's place among the call's words, from 0. Accepted: the first n bytes of out are the
+ * bytes, the others stay. */
+uint8_t kusikhut_decode_nrz(const uint8_t *chips, size_t chips_len, size_t start, size_t n,
+                            uint8_t *out, size_t out_len, uint64_t results[1]);
+uint8_t kusikhut_decode_three_of_six(const uint8_t *chips, size_t chips_len, size_t start, size_t n,
+                                     uint8_t *out, size_t out_len, uint64_t results[1]);
+uint8_t kusikhut_decode_manchester(const uint8_t *chips, size_t chips_len, size_t start, size_t n,
+                                   uint8_t *out, size_t out_len, uint64_t results[1]);
+
+/* Encoding: 0, or 4. results[0]: bytes written. Unused chips of the last one are 0, bytes after it stay. */
+uint8_t kusikhut_encode_nrz(const uint8_t *bytes, size_t bytes_len, uint8_t *out, size_t out_len, uint64_t results[1]);
+uint8_t kusikhut_encode_three_of_six(const uint8_t *bytes, size_t bytes_len, uint8_t *out, size_t out_len,
+                                     uint64_t results[1]);
+uint8_t kusikhut_encode_manchester(const uint8_t *bytes, size_t bytes_len, uint8_t *out, size_t out_len,
+                                   uint64_t results[1]);
+
+/* One code word at chip `at`: 0, or 10, 1, 6. results[0]: the byte, half-byte or bit that it stands for. The next word
+ * begins 8 (NRZ), 6 (three-of-six) or 2 (Manchester) chips on. */
+uint8_t kusikhut_word_nrz(const uint8_t *chips, size_t chips_len, size_t at, uint64_t results[1]);
+uint8_t kusikhut_word_three_of_six(const uint8_t *chips, size_t chips_len, size_t at, uint64_t results[1]);
+uint8_t kusikhut_word_manchester(const uint8_t *chips, size_t chips_len, size_t at, uint64_t results[1]);
+
+/* The search for 543Dh from `start`, trying at most `allowance` positions: 0, or 10; 7 or 14.
+ * results: place found, positions tried (also for 7 and 14). */
+uint8_t kusikhut_search(const uint8_t *chips, size_t chips_len, size_t start, size_t allowance, uint64_t results[2]);
+
+/* The block check of any bytes. */
+uint16_t kusikhut_check(const uint8_t *bytes, size_t bytes_len);
+
+/* The check after one byte of the checked span changed from old_byte to new_byte, `distance` bytes before the span's
+ * end: 0, or 10. results[0]: the new check. */
+uint8_t kusikhut_update(uint16_t old_check, uint8_t old_byte, uint8_t new_byte, size_t distance, uint64_t results[1]);
+
+/* Frames as bytes, in format A and B.
+ * The size of a frame whose length byte is l: 0, or 2. results[0]: its size in bytes. */
+uint8_t kusikhut_frame_size_a(uint8_t l, uint64_t results[1]);
+uint8_t kusikhut_frame_size_b(uint8_t l, uint64_t results[1]);
+
+/* Reading: 0, or 1 (empty), 2, 1, 3, 4. results: frame size, content length n, and for 3 the first wrong block from 1.
+ * Accepted: the content is in the first n bytes of out, the others stay. */
+uint8_t kusikhut_read_a(const uint8_t *bytes, size_t bytes_len, uint8_t *out, size_t out_len, uint64_t results[3]);
+uint8_t kusikhut_read_b(const uint8_t *bytes, size_t bytes_len, uint8_t *out, size_t out_len, uint64_t results[3]);
+
+/* Writing: 0, or 5, 4. results[0]: frame size. Bytes of out after the frame stay. */
+uint8_t kusikhut_write_a(const uint8_t *content, size_t content_len, uint8_t *out, size_t out_len, uint64_t results[1]);
+uint8_t kusikhut_write_b(const uint8_t *content, size_t content_len, uint8_t *out, size_t out_len, uint64_t results[1]);
+
+/* Changing the content byte at `place` in the frame itself: 0, or the frame's 1, 2, 3, then 9.
+ * results: frame size, content length, and for 3 the first wrong block. Only that byte and the two check bytes over it
+ * change. */
+uint8_t kusikhut_change_a(uint8_t *frame, size_t frame_len, size_t place, uint8_t byte, uint64_t results[3]);
+uint8_t kusikhut_change_b(uint8_t *frame, size_t frame_len, size_t place, uint8_t byte, uint64_t results[3]);
+
+/* Frames as chips. A kind is 0: mode T, format A; 1: mode C, format A; 2: mode C, format B; 3: Manchester, format A.
+ * Receiving mode T or C: 0, or 10; 7 or 14; 1, 8; 1, 6; 2; 1, 6; 3; 4.
+ * results: kind, place of the sync word (also for 8), positions tried (also for 7, 14), frame size, content length,
+ * wrong block (for 3), place of the bad word from the frame's first word (for 6). */
+uint8_t kusikhut_receive(const uint8_t *chips, size_t chips_len, size_t start, size_t allowance,
+                         uint8_t *out, size_t out_len, uint64_t results[7]);
+
+/* Receiving a Manchester frame at chip `start`: 0, or 10; 1, 6; 2; 1, 6; 3; 4. The same results; place is start,
+ * positions tried 0. */
+uint8_t kusikhut_receive_manchester(const uint8_t *chips, size_t chips_len, size_t start,
+                                    uint8_t *out, size_t out_len, uint64_t results[7]);
+
+/* Sending: 0, or 5, 4. results[0]: bytes written, sync chips first. Unused chips of the last byte are 0, bytes after
+ * it stay. */
+uint8_t kusikhut_send_t_a(const uint8_t *content, size_t content_len, uint8_t *out, size_t out_len, uint64_t results[1]);
+uint8_t kusikhut_send_c_a(const uint8_t *content, size_t content_len, uint8_t *out, size_t out_len, uint64_t results[1]);
+uint8_t kusikhut_send_c_b(const uint8_t *content, size_t content_len, uint8_t *out, size_t out_len, uint64_t results[1]);
+uint8_t kusikhut_send_manchester_a(const uint8_t *content, size_t content_len, uint8_t *out, size_t out_len,
+                                   uint64_t results[1]);
+
+/* Extended link headers. Reading from a body: 0, or 12 (empty), 11, 12.
+ * results: length, CI, CC, ACC, M2, the six bytes of A2 in their order, SN, and the two bytes of PayloadCRC in their
+ * order. Fields that the header lacks are 0. */
+uint8_t kusikhut_header_read(const uint8_t *body, size_t body_len, uint64_t results[14]);
+
+/* Writing a header: 0, or 4. results[0]: bytes written; bytes after stay. a2 and crc are sent as they stand. */
+uint8_t kusikhut_header_write_8c(uint8_t cc, uint8_t acc, uint8_t *out, size_t out_len, uint64_t results[1]);
+uint8_t kusikhut_header_write_8d(uint8_t cc, uint8_t acc, uint32_t sn, const uint8_t crc[2],
+                                 uint8_t *out, size_t out_len, uint64_t results[1]);
+uint8_t kusikhut_header_write_8e(uint8_t cc, uint8_t acc, uint16_t m2, const uint8_t a2[6],
+                                 uint8_t *out, size_t out_len, uint64_t results[1]);
+uint8_t kusikhut_header_write_8f(uint8_t cc, uint8_t acc, uint16_t m2, const uint8_t a2[6], uint32_t sn,
+                                 const uint8_t crc[2], uint8_t *out, size_t out_len, uint64_t results[1]);
+
+/* Access announced by CC: 0 none, 1 none for now, 2 limited, 3 unlimited. */
+uint8_t kusikhut_access(uint8_t cc);
+
+/* Letters of M: always 0. results: 1 and the three letters as ASCII, or four zeros where M has no letters. */
+uint8_t kusikhut_letters(uint16_t m, uint64_t results[4]);
+
+/* The meter filter. entries: sixteen of eight bytes, M then A; the first `count` are in use. 0, or 10, 5.
+ * results[0]: 1 wanted, 0 not. */
+uint8_t kusikhut_filter(const uint8_t entries[16][8], size_t count, const uint8_t *content, size_t content_len,
+                        uint64_t results[1]);
+
+/* Mode N. A row of Table 21 by index: first centre, spacing, tolerance in kHz; zeros for an index that is not 1 to 13.
+ * A channel's centre in kHz: 0, or 13 and zero. */
+void kusikhut_row(size_t index, double row[3]);
+uint8_t kusikhut_centre(size_t index, size_t channel, double centre[1]);
+
+/* Line k, from 0, of the list of a band; `band` is one capital letter A to D, perhaps with a line feed after it: 0, or
+ * 13 past the last line and for any other input. results: index, channel, centre in Hz. */
+uint8_t kusikhut_band_line(const uint8_t *band, size_t band_len, size_t k, uint64_t results[3]);
+
+#ifdef __cplusplus
+}
+#endif
+
+#endif

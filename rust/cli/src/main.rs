@@ -1,0 +1,46 @@
+//! `kusikhut`: one command from its arguments, or one command a line from standard input; one line of answer for each.
+//!
+//! The program parses and prints; every decision is the proved library's.
+mod args;
+mod commands;
+mod lines;
+mod reply;
+
+use std::io::{self, Write};
+
+fn main() {
+    let given: Vec<String> = std::env::args_os().skip(1).map(|a| a.to_string_lossy().into_owned()).collect();
+    let mut out = io::stdout().lock();
+    let wrote = if given.is_empty() { converse(&mut out) } else { answer(&given.join(" "), &mut out) };
+    // A reader that went away (as `head` does) is no error of ours, and there is nobody left to tell.
+    drop(wrote.and_then(|()| out.flush()));
+}
+
+fn converse(out: &mut impl Write) -> io::Result<()> {
+    let mut input = io::stdin().lock();
+    while let Some(line) = lines::next(&mut input) {
+        match line {
+            lines::Line::Text(text) => answer(&text, out)?,
+            lines::Line::TooLong => writeln!(out, "error the line has over {} characters and was skipped", lines::LONGEST)?,
+            lines::Line::Unreadable(at) => writeln!(out, "error character {at} is no printable ASCII")?,
+            lines::Line::Broken(why) => return writeln!(out, "error standard input cannot be read: {why}"),
+        }
+    }
+    Ok(())
+}
+
+/// Answers one line. Blank lines have no answer, and a line that begins with # is passed on, so that a file of commands
+/// can say what it shows.
+fn answer(line: &str, out: &mut impl Write) -> io::Result<()> {
+    let line = line.trim();
+    if line.is_empty() {
+        return Ok(());
+    }
+    if line.starts_with('#') {
+        return writeln!(out, "{line}");
+    }
+    match commands::run(line) {
+        Ok(text) => writeln!(out, "{text}"),
+        Err(fault) => writeln!(out, "error {fault}"),
+    }
+}

@@ -1,0 +1,89 @@
+//! The wrapper over the frames of EN 13757-4:2019, Annex C: round trips, and refusals that leave lent memory alone.
+use kusikhut::{Access, Code, Format, Header, Kind, Refusal};
+
+const CONTENT: [u8; 15] = [0x44, 0xAE, 0x0C, 0x78, 0x56, 0x34, 0x12, 0x01, 0x07, 0x78, 0x0B, 0x13, 0x43, 0x65, 0x87];
+const FRAME: [u8; 20] = [
+    0x0F, 0x44, 0xAE, 0x0C, 0x78, 0x56, 0x34, 0x12, 0x01, 0x07, 0x44, 0x47, 0x78, 0x0B, 0x13, 0x43, 0x65, 0x87, 0x1E, 0x6D,
+];
+const UNTOUCHED: u8 = 0xEE;
+
+#[test]
+fn a_frame_is_written_read_and_changed() {
+    let mut frame = [UNTOUCHED; 24];
+    assert_eq!(Format::A.write(&CONTENT, &mut frame), Ok(20));
+    assert_eq!((&frame[..20], &frame[20..]), (&FRAME[..], &[UNTOUCHED; 4][..]));
+    assert_eq!(Format::A.change(&mut frame, 0, 0x46).map(|f| (f.size, f.n)), Ok((20, 15)));
+    let mut out = [UNTOUCHED; 16];
+    assert_eq!(Format::A.read(&frame, &mut out).map(|f| f.n), Ok(15));
+    assert_eq!((out[0], &out[1..15], out[15]), (0x46, &CONTENT[1..], UNTOUCHED));
+}
+
+#[test]
+fn a_refusal_leaves_lent_memory() {
+    let mut out = [UNTOUCHED; 15];
+    assert_eq!(Format::A.read(&[], &mut out), Err(Refusal::Short));
+    assert_eq!(Format::A.read(&FRAME[..18], &mut out), Err(Refusal::Short));
+    assert_eq!(Format::B.read(&[11], &mut out), Err(Refusal::BadLength));
+    assert_eq!(Format::A.read(&FRAME, &mut out[..14]), Err(Refusal::NoRoom));
+    let mut wrong = FRAME;
+    wrong[12] ^= 0x80;
+    assert_eq!(Format::A.read(&wrong, &mut out), Err(Refusal::WrongCheck { block: 2 }));
+    assert_eq!(Format::A.write(&CONTENT[..9], &mut out), Err(Refusal::BadContent));
+    assert_eq!(out, [UNTOUCHED; 15]);
+    let mut frame = FRAME;
+    assert_eq!(Format::A.change(&mut frame, 15, 0), Err(Refusal::BadPlace));
+    assert_eq!(frame, FRAME);
+}
+
+#[test]
+fn every_kind_is_received_as_it_was_sent() {
+    for kind in [Kind::TA, Kind::CA, Kind::CB, Kind::ManchesterA] {
+        let (mut chips, mut out) = ([0u8; 64], [UNTOUCHED; 15]);
+        let bytes = kind.send(&CONTENT, &mut chips).expect("there is room") as usize;
+        let got = match kind {
+            Kind::ManchesterA => kusikhut::receive_manchester(&chips[..bytes], 0, &mut out),
+            _ => kusikhut::receive(&chips[..bytes], 0, usize::MAX, &mut out),
+        };
+        assert_eq!(got.map(|r| (r.kind, r.place, r.n)), Ok((kind, 0, 15)));
+        assert_eq!(out, CONTENT);
+    }
+}
+
+#[test]
+fn any_number_gets_an_answer() {
+    let mut out = [UNTOUCHED; 4];
+    assert_eq!(Code::Nrz.decode(&[], usize::MAX, usize::MAX, &mut out), Err(Refusal::OutOfRange));
+    assert_eq!(Code::Manchester.decode(&[0x9A, 0x9A], 0, usize::MAX, &mut out), Err(Refusal::Short));
+    assert_eq!(kusikhut::receive(&[0; 1025], 0, usize::MAX, &mut out), Err(Refusal::OutOfRange));
+    assert_eq!(kusikhut::search(&[0; 4], 32, usize::MAX), Err(Refusal::NoSync { tried: 0 }));
+    assert_eq!(kusikhut::search(&[0; 4], 0, 5), Err(Refusal::UsedUp { tried: 5 }));
+    assert_eq!(kusikhut::update(0, 0, 0, usize::MAX), Err(Refusal::OutOfRange));
+    assert_eq!(kusikhut::wanted(&[[0; 8]; 16], usize::MAX, &CONTENT), Err(Refusal::OutOfRange));
+    assert_eq!(kusikhut::centre(usize::MAX, usize::MAX), Err(Refusal::NoSuchChannel));
+    assert_eq!(out, [UNTOUCHED; 4]);
+}
+
+#[test]
+fn line_codes_are_each_other_s_inverse() {
+    for code in [Code::Nrz, Code::ThreeOfSix, Code::Manchester] {
+        let (mut chips, mut out) = ([0u8; 40], [0u8; 20]);
+        let size = code.encode(&FRAME, &mut chips).expect("there is room") as usize;
+        assert_eq!(code.decode(&chips[..size], 0, 20, &mut out), Ok(()));
+        assert_eq!(out, FRAME);
+    }
+    assert_eq!(Code::ThreeOfSix.word(&[0x54], 0), Err(Refusal::BadWord { place: 0 }));
+}
+
+#[test]
+fn headers_and_names() {
+    let header = Header::NamedSession { cc: 0x84, acc: 7, m2: 0x0CAE, a2: [1, 2, 3, 4, 5, 6], sn: 0x01020304, crc: [0xAB, 0xCD] };
+    let mut out = [UNTOUCHED; 18];
+    assert_eq!(header.write(&mut out), Ok(17));
+    assert_eq!((Header::read(&out), out[17]), (Ok((header, 17)), UNTOUCHED));
+    assert_eq!((Header::read(&[]), Header::read(&[0x86])), (Err(Refusal::ShortBody), Err(Refusal::UnknownCi)));
+    assert_eq!((kusikhut::access(0x84), kusikhut::letters(0x0443)), (Access::Always, Some(*b"ABC")));
+    let mut entries = [[0u8; 8]; 16];
+    entries[15].copy_from_slice(&CONTENT[1..9]);
+    assert_eq!(kusikhut::wanted(&entries, 16, &CONTENT), Ok(true));
+    assert_eq!(kusikhut::wanted(&entries, 15, &CONTENT), Ok(false));
+}
