@@ -5,3 +5,4 @@ pub mod WalkLaws
 pub mod TurnLaws
 pub mod PlaceLaws
 pub mod MendLaws
+pub mod LoopLaws

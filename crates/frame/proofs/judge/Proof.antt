@@ -16,18 +16,16 @@ use Rattle.frame.proofs.judge.Tie as tie
 -- what the length byte says
 sized :
     (c : tie.After-size)
-    → sizeFor (c .before .before .before .before .before .before .args .f)
-    (getD (c .before .before .before .before .before .before .args .s .now) 0 0)
-    ≡ FrameSize.Bytes (c .size .given .0 .0) (c .size .given .0 .1 .0)
+    → let a = c .before .before .before .before .before .before .args in
+    sizeFor (a .f) (getD (a .s .now) 0 0) ≡ FrameSize.Bytes (c .size .given .0 .0) (c .size .given .0 .1 .0)
 sized c = sym (c .before .before .frame-size .ensures) ∙ c .size .given .1
 
 -- where all bytes are there, the checks decide
 checked :
     (c : tie.After-first-wrong)
-    → judgeOf (c .before .before .before .before .before .before .before .before .before .before .before .args .f)
-    (c .before .before .before .before .before .before .before .before .before .before .before .args .s .now)
-    ≡ byChecks (c .before .before .before .before .before .size .given .0 .0)
-    (c .before .before .before .before .before .size .given .0 .1 .0) (c .first-wrong .result)
+    → let a = c .before .before .before .before .before .before .before .before .before .before .before .args in
+    let got = c .before .before .before .before .before .size .given in
+    judgeOf (a .f) (a .s .now) ≡ byChecks (got .0 .0) (got .0 .1 .0) (c .first-wrong .result)
 checked c =
     let a = c .before .before .before .before .before .before .before .before .before .before .before .args in
     judgeOf-whole (a .f) (a .s .now)

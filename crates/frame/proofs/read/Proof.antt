@@ -19,8 +19,8 @@ use Rattle.frame.proofs.read.Tie as tie
 -- what the judgement says where it accepts
 judged :
     (c : tie.After-size)
-    → Judged.Accepted (c .size .given .0 .0) (c .size .given .0 .1 .0)
-    ≡ judgeOf (c .before .before .before .before .before .args .f) (c .before .before .before .before .before .args .s .now)
+    → let a = c .before .before .before .before .before .args in
+    Judged.Accepted (c .size .given .0 .0) (c .size .given .0 .1 .0) ≡ judgeOf (a .f) (a .s .now)
 judged c = sym (c .size .given .1) ∙ c .before .before .judge .ensures
 
 judge-requires : tie.Need-judge-requires

@@ -13,9 +13,8 @@ use Rattle.spans.proofs.set_byte.Tie as tie
 -- the byte stands inside its span, the span inside the slice, and the span is at most 126 bytes long
 inside :
     (c : tie.After-locate)
-    → (c .locate .result .offset < c .locate .result .length) ×
-    ((c .locate .result .start + c .locate .result .length + 2 ≤ length (c .before .before .args .s .now)) ×
-    (c .locate .result .length ≤ c .locate .result .offset + 126))
+    → let r = c .locate .result in
+    (r .offset < r .length) × ((r .start + r .length + 2 ≤ length (c .before .before .args .s .now)) × (r .length ≤ r .offset + 126))
 inside c =
     let a = c .before .before .args in
     let p = placed (spans (a .first) (a .later) (a .t)) (a .j)
