@@ -1,0 +1,3 @@
+pub mod HarmlessLaws
+pub mod Demands
+pub mod Starred
