@@ -1,0 +1,55 @@
+#!/usr/bin/env python3
+"""Every public function's contract settles its result and every lent byte (document 01, "No room for a hollow program").
+
+A contract does so where it is an equation: its result, or the outcome that has the result as its answer, stands on the
+left of an equality, and so does what each `&mut` parameter holds at exit. Two results that such a contract allows
+coincide by the one law `settled` of ground. This looks at the text of crates/*/src; docs/SETTLED.md says what follows.
+Prints each function that is not settled so, and exits with 1 if there is one.
+"""
+import re
+import sys
+from pathlib import Path
+
+HEAD = re.compile(r'pub (?:extern "C" )?fn (\w+)(.*?)\n\s*\{\n', re.S)
+
+
+def faults(head):
+    """What the head of a function leaves open, in words."""
+    signature = head.split("ensures")[0].split("requires")[0]
+    returns = re.search(r"->\s*\S", signature) is not None
+    clauses = head[head.find("ensures"):] if "ensures" in head else ""
+    settled = " ".join(
+        " ".join(filter(None, m.groups())) for m in re.finditer(r"λ (\w+)\.(.*)", clauses, re.S)
+    )
+    result = re.search(r"λ (\w+)\.", clauses)
+    if not clauses:
+        return ["it has no ensures"]
+    found = []
+    if returns and result:
+        name = re.escape(result.group(1))
+        direct = re.search(rf"⌜\s*\(?{name}\s+≡ ", settled)
+        in_record = re.search(rf"record \{{[^}}]*(answer|number) = {name}[;\s}}]", settled)
+        if not (direct or in_record):
+            found.append("its result stands in no equation")
+    for lent in re.findall(r"(\w+): &(?:'\w+ )?mut ", signature):
+        exit_value = rf"now \(«?{lent}»? \.exit\)"
+        if not re.search(rf"{exit_value}\s+≡ |(?:memory|results) = {exit_value}", settled):
+            found.append(f"what `{lent}` holds at exit stands in no equation")
+    return found
+
+
+def main():
+    total, open_ones = 0, 0
+    for path in sorted(Path("crates").glob("*/src/*.rt")):
+        for match in HEAD.finditer(path.read_text(encoding="utf-8")):
+            total += 1
+            for fault in faults(match.group(2)):
+                open_ones += 1
+                print(f"{path}: {match.group(1)}: {fault}")
+    if total == 0:
+        print("no public function was found: this test looks in the wrong place")
+    print(f"tests/contracts: {total} public functions, {open_ones} left open")
+    return 1 if open_ones or total == 0 else 0
+
+
+sys.exit(main())
