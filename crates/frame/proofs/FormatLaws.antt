@@ -51,7 +51,7 @@ or-true-cases : (a b : Bool) → a || b ≡ true → (a ≡ true) ⊎ (b ≡ tru
 or-true-cases true b h = inl refl
 or-true-cases false b h = inr h
 
-allowed-byte : (f : Format) (l : ℕ) → formOf f .allowed l ≡ true → l < 256
+pub allowed-byte : (f : Format) (l : ℕ) → formOf f .allowed l ≡ true → l < 256
 allowed-byte A l h = omega (arith, true-within 10 255 l h)
 allowed-byte B l h =
     ⊎-elim (λ w. omega (arith, true-within 12 127 l w)) (λ w. omega (arith, true-within 130 255 l w))

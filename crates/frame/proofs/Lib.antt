@@ -1,3 +1,4 @@
+pub mod ByteLaws
 pub mod WorkedExamples
 pub mod FormatLaws
 pub mod JudgeLaws

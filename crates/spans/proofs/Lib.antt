@@ -1,3 +1,4 @@
+pub mod ByteLaws
 pub mod SealLaws
 pub mod SpanLaws
 pub mod CutLaws
