@@ -1,3 +1,4 @@
 pub mod Kinds
 pub mod Receiving
 pub mod Sending
+pub mod Heard

@@ -3,18 +3,19 @@
 --     tailOf-short, -there     fewer than 32 chips are left from the sync word on, or at least so many
 --     leadOf-le                no kind has more than 32 sync chips
 --     begins-there             where a frame begins, its sync chips are all there
+--     TailFits kind t          the tails of a kind; kindFor-fits, fits-kindFor: exactly these tell it
 use mathlib.Core.Bool.{Bool, true, false, cond}
-use mathlib.Core.Path.{_≡_, refl}
+use mathlib.Core.Path.{_≡_, refl, subst}
 use mathlib.Core.List.{List}
-use Prim.Native.Nat.{ℕ, _+_, _≤_, _<_}
+use Prim.Native.Nat.{ℕ, _+_, _/_, _≤_, _<_}
 use native.Mathlib.Omega.{arith}
-use borrow.Author.Tests.{lt-ltb, le-ltb, le-leb, lt-leb, leb-true, ltb-false}
-use lib.Dec.{leb, ltb}
+use borrow.Author.Tests.{lt-ltb, le-ltb, le-leb, lt-leb, leb-true, ltb-false, eqb-true, eqb-false, eq-eqb, ne-eqb}
+use lib.Dec.{leb, ltb, eqb}
 use lib.ListN.{length}
 use Rattle.chips.specs.Chips.{wordAt, chipCount, roomLimit}
 use Rattle.sync.specs.Tails.{tailOf, kindFor}
 use Rattle.sync.specs.declared.Tail.{Tail}
-use Rattle.sync.specs.declared.Tail.the-variants.{Begins, Short, OutOfRange}
+use Rattle.sync.specs.declared.Tail.the-variants.{Begins, Short, UnknownTail, OutOfRange}
 use Rattle.sync.specs.declared.Kind.{Kind}
 use Rattle.sync.specs.declared.Kind.the-variants.{TWithA, CWithA, CWithB, ManchesterWithA}
 use Rattle.sync.specs.Kinds.{leadOf}
@@ -60,3 +61,33 @@ begins-there s k kind e =
     by-tests true d true true f o g = let z : _≡_ {A = ℕ} 0 1 = cc in omega arith
     by-tests true d false t f o g = let z : _≡_ {A = ℕ} 0 1 = cc in omega arith
     by-tests false d b t f o g = let z : _≡_ {A = ℕ} 0 1 = cc in omega arith
+
+-- which tails a kind has: mode C its own, mode T every one that does not begin with 010101
+abbrev pub TailFits : Kind → ℕ → Type 0
+TailFits TWithA t = t / 1024 ≡ 0b010101 → ⊥
+TailFits CWithA t = t ≡ 0x54CD
+TailFits CWithB t = t ≡ 0x543D
+TailFits ManchesterWithA t = ⊥
+
+same-kind : (a b : Kind) → Begins a ≡ Begins b → a ≡ b
+same-kind a b e = cc
+
+pub kindFor-fits : (k t : ℕ) (kind : Kind) → kindFor k t ≡ Begins kind → TailFits kind t
+kindFor-fits k t kind e = by-tests (eqb t 0x54CD) refl (eqb t 0x543D) refl (eqb (t / 1024) 0b010101) refl e
+  where
+    by-tests : (a : Bool) → eqb t 0x54CD ≡ a → (b : Bool) → eqb t 0x543D ≡ b → (x : Bool) → eqb (t / 1024) 0b010101 ≡ x
+        → cond a (Begins CWithA) (cond b (Begins CWithB) (cond x (UnknownTail k) (Begins TWithA))) ≡ Begins kind → TailFits kind t
+    by-tests true p b q x r g = subst (λ (j : Kind). TailFits j t) (same-kind CWithA kind g) (eqb-true t 0x54CD p)
+    by-tests false p true q x r g = subst (λ (j : Kind). TailFits j t) (same-kind CWithB kind g) (eqb-true t 0x543D q)
+    by-tests false p false q false r g = subst (λ (j : Kind). TailFits j t) (same-kind TWithA kind g) (eqb-false (t / 1024) 0b010101 r)
+    by-tests false p false q true r g = absurd (unknown g)
+      where
+        unknown : UnknownTail k ≡ Begins kind → ⊥
+        unknown h = let z : _≡_ {A = ℕ} 0 1 = cc in omega arith
+
+pub fits-kindFor : (k t : ℕ) (kind : Kind) → TailFits kind t → kindFor k t ≡ Begins kind
+fits-kindFor k t CWithA e = rw (eq-eqb t 0x54CD e)
+fits-kindFor k t CWithB e = rw e
+fits-kindFor k t TWithA e =
+    rw (ne-eqb t 0x54CD (λ h. e (rw h)), ne-eqb t 0x543D (λ h. e (rw h)), ne-eqb (t / 1024) 0b010101 e)
+fits-kindFor k t ManchesterWithA e = absurd e

@@ -1,0 +1,44 @@
+-- What receiving a frame in chips means, said without the receiver's steps (document 01, "Sync search", "No room for a
+-- hollow program"), once over the kind.
+--     receivingOf k s start a d    the call for kind k: T and C are searched from `start`, Manchester stands at it
+--     Reached k s start a place t  the call looks at `place`, as the t-th position that it tries: for T and C the sync
+--                                  word stands there first, within the allowance a; Manchester begins at the start
+--     Heard s start a d k place t z n    a frame of kind k stands where the call looks: its content c, n bytes, has a
+--                                  frame of z bytes, and sending c as kind k writes just these chips; d has room for c
+--     heardOf k place t z c d      then the answer names kind, place, positions, frame size and length, and d begins with c
+use mathlib.Core.List.{List, _++_}
+use mathlib.Core.Path.{_≡_}
+use Prim.Native.Nat.{ℕ, _≤_}
+use lib.ListN.{length, drop}
+use Rattle.ground.specs.Outcome.{Outcome}
+use Rattle.frame.specs.Formats.{frameSize}
+use Rattle.sync.specs.declared.Kind.{Kind}
+use Rattle.sync.specs.declared.Kind.the-variants.{TWithA, CWithA, CWithB, ManchesterWithA}
+use Rattle.sync.specs.FirstMatch.{FirstAt}
+use Rattle.sync.specs.SyncSearch.{syncWord, syncWidth}
+use Rattle.radio.specs.declared.Reception.{Reception}
+use Rattle.radio.specs.Kinds.{formatOf}
+use Rattle.radio.specs.Receiving.{receptionOf, manchesterOf}
+use Rattle.radio.specs.Sending.{SentAt}
+
+abbrev pub receivingOf : Kind → List ℕ → ℕ → ℕ → List ℕ → Outcome Reception
+receivingOf TWithA s start a d = receptionOf s start a d
+receivingOf CWithA s start a d = receptionOf s start a d
+receivingOf CWithB s start a d = receptionOf s start a d
+receivingOf ManchesterWithA s start a d = manchesterOf s start d
+
+abbrev pub Reached : Kind → List ℕ → ℕ → ℕ → ℕ → ℕ → Type 0
+Reached TWithA s start a place t = FirstAt syncWord syncWidth s start a place t
+Reached CWithA s start a place t = FirstAt syncWord syncWidth s start a place t
+Reached CWithB s start a place t = FirstAt syncWord syncWidth s start a place t
+Reached ManchesterWithA s start a place t = (place ≡ start) × (t ≡ 0)
+
+pub record Heard (s : List ℕ) (start a : ℕ) (d : List ℕ) (k : Kind) (place t z n : ℕ) (c : List ℕ) : Type 0 where
+  pub reached : Reached k s start a place t
+  pub sent : SentAt k s place c
+  pub count : length c ≡ n
+  pub size : z ≡ frameSize (formatOf k) n
+  pub room : n ≤ length d
+
+abbrev pub heardOf : Kind → ℕ → ℕ → ℕ → List ℕ → List ℕ → Outcome Reception
+heardOf k place t z c d = record { answer = Reception.Accepted k place t z (length c); memory = c ++ drop (length c) d }
