@@ -1,4 +1,5 @@
 -- Words that are there and are code words (specs/Receiving, `coded`), and the bytes that they stand for.
+--     not-accepted        an answer with a number above 0 is a refusal
 --     Through κ s at n    the words of n bytes from chip `at` on are all there, and all are code words
 --     coded-through       then nothing is refused: what comes next decides
 --     coded-accepted      and nothing else is accepted
@@ -27,7 +28,10 @@ use Rattle.line.proofs.GoodRunLaws.{goodRun-le, goodRun-all, goodRun-whole}
 use Rattle.line.proofs.TripLaws.{Holds, decode-run, decode-encode, encode-decode}
 use Rattle.sync.specs.declared.Kind.{Kind}
 use Rattle.radio.specs.declared.Reception.{Reception}
-use Rattle.radio.specs.Receiving.{refused, coded, lengthAt}
+use Rattle.radio.specs.Receiving.{refused, coded, lengthAt, numberOf}
+
+pub not-accepted : (r : Reception) (k : Kind) (place t z n : ℕ) → 0 < numberOf r → r ≡ Reception.Accepted k place t z n → ⊥
+not-accepted r k place t z n h e = omega (arith, ap numberOf e)
 
 pub record Through (κ : LineCode) (s : List ℕ) (at n : ℕ) : Type 0 where
   pub there : at + chipsIn κ n ≤ chipCount s
@@ -52,14 +56,9 @@ module _ (κ : LineCode) (s : List ℕ) (at n : ℕ) (d : List ℕ) (next : Outc
           { there = ltb-false (chipCount s) (at + chipsIn κ n) p
           ; words = omega (arith, goodRun-le (valueAt κ s at) (wordsIn κ n), ltb-false (goodRun (valueAt κ s at) (wordsIn κ n)) (wordsIn κ n) q)
           }
-      by-tests true p b q g = absurd (short g)
-        where
-          short : Reception.Short ≡ Reception.Accepted k place t z m → ⊥
-          short h = let one : _≡_ {A = ℕ} 0 1 = cc in omega arith
-      by-tests false p true q g = absurd (bad g)
-        where
-          bad : Reception.BadWord (goodRun (valueAt κ s at) (wordsIn κ n)) ≡ Reception.Accepted k place t z m → ⊥
-          bad h = let one : _≡_ {A = ℕ} 0 1 = cc in omega arith
+      by-tests true p b q g = absurd (not-accepted Reception.Short k place t z m (omega arith) g)
+      by-tests false p true q g =
+          absurd (not-accepted (Reception.BadWord (goodRun (valueAt κ s at) (wordsIn κ n))) k place t z m (omega arith) g)
 
 pub through-less : (κ : LineCode) (s : List ℕ) (at m n : ℕ) → m ≤ n → Through κ s at n → Through κ s at m
 through-less κ s at m n h p =

@@ -3,14 +3,16 @@
 --     receivingOf k s start a d    the call for kind k: T and C are searched from `start`, Manchester stands at it
 --     Reached k s start a place t  the call looks at `place`, as the t-th position that it tries: for T and C the sync
 --                                  word stands there first, within the allowance a; Manchester begins at the start
---     Heard s start a d k place t z n    a frame of kind k stands where the call looks: its content c, n bytes, has a
---                                  frame of z bytes, and sending c as kind k writes just these chips; d has room for c
+--     Heard s start a d k place t z n c    a frame of kind k stands where the call looks: its content c, n bytes, has a
+--                                  frame of z bytes, and sending c as kind k writes just these chips; d has room for c;
+--                                  s is not too long (house)
 --     heardOf k place t z c d      then the answer names kind, place, positions, frame size and length, and d begins with c
 use mathlib.Core.List.{List, _++_}
 use mathlib.Core.Path.{_≡_}
 use Prim.Native.Nat.{ℕ, _≤_}
 use lib.ListN.{length, drop}
 use Rattle.ground.specs.Outcome.{Outcome}
+use Rattle.chips.specs.Chips.{roomLimit}
 use Rattle.frame.specs.Formats.{frameSize}
 use Rattle.sync.specs.declared.Kind.{Kind}
 use Rattle.sync.specs.declared.Kind.the-variants.{TWithA, CWithA, CWithB, ManchesterWithA}
@@ -34,6 +36,7 @@ Reached CWithB s start a place t = FirstAt syncWord syncWidth s start a place t
 Reached ManchesterWithA s start a place t = (place ≡ start) × (t ≡ 0)
 
 pub record Heard (s : List ℕ) (start a : ℕ) (d : List ℕ) (k : Kind) (place t z n : ℕ) (c : List ℕ) : Type 0 where
+  pub small : length s ≤ roomLimit
   pub reached : Reached k s start a place t
   pub sent : SentAt k s place c
   pub count : length c ≡ n

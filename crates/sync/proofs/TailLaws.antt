@@ -2,10 +2,11 @@
 --     tailOf-long, -behind     the buffer is too long, the place lies behind it
 --     tailOf-short, -there     fewer than 32 chips are left from the sync word on, or at least so many
 --     leadOf-le                no kind has more than 32 sync chips
+--     tailOf-begun             what a tail that begins a frame says (BegunBy)
 --     begins-there             where a frame begins, its sync chips are all there
 --     TailFits kind t          the tails of a kind; kindFor-fits, fits-kindFor: exactly these tell it
 use mathlib.Core.Bool.{Bool, true, false, cond}
-use mathlib.Core.Path.{_≡_, refl, subst}
+use mathlib.Core.Path.{_≡_, refl, subst, _∙_}
 use mathlib.Core.List.{List}
 use Prim.Native.Nat.{ℕ, _+_, _/_, _≤_, _<_}
 use native.Mathlib.Omega.{arith}
@@ -49,18 +50,35 @@ leadOf-le CWithA = omega arith
 leadOf-le CWithB = omega arith
 leadOf-le ManchesterWithA = omega arith
 
--- a tail that begins a frame is there: the frame's first chip is not behind the buffer
-pub begins-there : (s : List ℕ) (k : ℕ) (kind : Kind) → tailOf s k ≡ Begins kind → (length s ≤ roomLimit) × (k + leadOf kind ≤ chipCount s)
+-- a tail that begins a frame: the buffer is not too long, the tail is there, and its sixteen chips tell the kind
+pub record BegunBy (s : List ℕ) (k : ℕ) (kind : Kind) : Type 0 where
+  pub small : length s ≤ roomLimit
+  pub there : k + 32 ≤ chipCount s
+  pub told : kindFor k (wordAt s (k + 16) 16) ≡ Begins kind
+
+pub tailOf-begun : (s : List ℕ) (k : ℕ) (kind : Kind) → tailOf s k ≡ Begins kind → BegunBy s k kind
 unfolding tailOf
-begins-there s k kind e =
-    by-tests (leb (length s) roomLimit) refl (leb k (chipCount s)) (ltb (chipCount s) (k + 32)) refl (kindFor k (wordAt s (k + 16) 16)) e
+tailOf-begun s k kind e =
+    by-tests (leb (length s) roomLimit) refl (leb k (chipCount s)) (ltb (chipCount s) (k + 32)) refl (kindFor k (wordAt s (k + 16) 16)) refl e
   where
-    by-tests : (a : Bool) → leb (length s) roomLimit ≡ a → (b t : Bool) → ltb (chipCount s) (k + 32) ≡ t → (o : Tail) → cond (cond a b false) (cond t Short o) OutOfRange ≡ Begins kind
-        → (length s ≤ roomLimit) × (k + leadOf kind ≤ chipCount s)
-    by-tests true d true false f o g = (leb-true (length s) roomLimit d, omega (arith, ltb-false (chipCount s) (k + 32) f, leadOf-le kind))
-    by-tests true d true true f o g = let z : _≡_ {A = ℕ} 0 1 = cc in omega arith
-    by-tests true d false t f o g = let z : _≡_ {A = ℕ} 0 1 = cc in omega arith
-    by-tests false d b t f o g = let z : _≡_ {A = ℕ} 0 1 = cc in omega arith
+    outside : OutOfRange ≡ Begins kind → ⊥
+    outside h = let z : _≡_ {A = ℕ} 0 1 = cc in omega arith
+
+    short : Short ≡ Begins kind → ⊥
+    short h = let z : _≡_ {A = ℕ} 0 1 = cc in omega arith
+
+    by-tests : (a : Bool) → leb (length s) roomLimit ≡ a → (b t : Bool) → ltb (chipCount s) (k + 32) ≡ t → (o : Tail) → kindFor k (wordAt s (k + 16) 16) ≡ o
+        → cond (cond a b false) (cond t Short o) OutOfRange ≡ Begins kind → BegunBy s k kind
+    by-tests true d true false f o q g = record { small = leb-true (length s) roomLimit d; there = ltb-false (chipCount s) (k + 32) f; told = q ∙ g }
+    by-tests true d true true f o q g = absurd (short g)
+    by-tests true d false t f o q g = absurd (outside g)
+    by-tests false d b t f o q g = absurd (outside g)
+
+-- so the frame's first chip is not behind the buffer
+pub begins-there : (s : List ℕ) (k : ℕ) (kind : Kind) → tailOf s k ≡ Begins kind → (length s ≤ roomLimit) × (k + leadOf kind ≤ chipCount s)
+begins-there s k kind e =
+    let p : BegunBy s k kind = tailOf-begun s k kind e in
+    (p .small, omega (arith, p .there, leadOf-le kind))
 
 -- which tails a kind has: mode C its own, mode T every one that does not begin with 010101
 abbrev pub TailFits : Kind → ℕ → Type 0
