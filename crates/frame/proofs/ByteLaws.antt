@@ -1,6 +1,6 @@
 -- The frame of a content of bytes is bytes, and the content that stands in bytes is bytes.
 use mathlib.Core.List.{List, _∷_}
-use Prim.Native.Nat.{ℕ, _≤_, _<_}
+use Prim.Native.Nat.{ℕ, _≤_}
 use lib.ListN.{length}
 use Rattle.ground.proofs.ByteLaws.{Bytes, bytes-cons, bytes-drop}
 use Rattle.spans.specs.Spans.{payload}

@@ -4,14 +4,14 @@
 --     sync-sent            and where both stand, it is what sending it writes
 --     words-sync           sync chips by words of sixteen, as the search and the tail look at them
 use mathlib.Core.Bool.{Bool, true, false}
-use mathlib.Core.List.{List, [], _∷_, _++_, append-nil}
+use mathlib.Core.List.{List, [], _++_, append-nil}
 use mathlib.Core.Path.{_≡_, refl, ap, sym, _∙_}
 use Prim.Native.Nat.{ℕ, _+_, _*_, _-_, _/_, _%_, _^_, _≤_, _<_}
 use native.Mathlib.Nat.{not-suc-le-zero}
 use native.Mathlib.Omega.{arith}
 use borrow.Author.Tests.{ltb-true, ltb-false}
 use lib.Dec.{ltb}
-use lib.ListN.{length, getD, List·getD-append}
+use lib.ListN.{length, List·getD-append}
 use Rattle.ground.proofs.ByteLaws.{Bytes}
 use Rattle.chips.specs.Chips.{chipAt, wordAt, gather, chipCount}
 use Rattle.chips.proofs.GatherLaws.{chipAt-lt}
@@ -19,7 +19,7 @@ use Rattle.chips.proofs.PackingLaws.{gather-same, gather-chip}
 use Rattle.line.specs.Codes.{chipsIn}
 use Rattle.line.specs.Encoding.{encoding, encodedChip}
 use Rattle.line.proofs.TripLaws.{Holds, encoding-holds}
-use Rattle.frame.specs.Formats.{formOf, frameSize}
+use Rattle.frame.specs.Formats.{formOf}
 use Rattle.frame.specs.Frames.{frameOf}
 use Rattle.frame.proofs.FrameLaws.{length-frameOf}
 use Rattle.sync.specs.declared.Kind.{Kind}
@@ -74,12 +74,12 @@ module _ (k : Kind) (c : List ℕ) where
         → place + leadOf k + chipsIn (lineOf k) (length (frameOf (formatOf k) c)) ≤ chipCount s
         → SyncAt k s place → Holds (lineOf k) s (place + leadOf k) (frameOf (formatOf k) c) → SentAt k s place c
     sync-sent bytes low high fits sync holds =
-        record
-        { bytes = bytes
-        ; low = low
-        ; high = high
-        ; whole = omega (arith, fits, sentChips-frame)
-        ; chips = λ i h. by-test i h (ltb i (leadOf k)) refl
+        record {
+          bytes = bytes;
+          low = low;
+          high = high;
+          whole = omega (arith, fits, sentChips-frame);
+          chips = λ i h. by-test i h (ltb i (leadOf k)) refl;
         }
       where
         by-test : (i : ℕ) → i < sentChips k (length c) → (t : Bool) → ltb i (leadOf k) ≡ t → chipAt s (place + i) ≡ chipAt (sentOf k c) i

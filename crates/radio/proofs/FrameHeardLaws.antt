@@ -3,15 +3,15 @@
 --     FrameHeard     what an accepted frame says: the words were there, and a content was sent
 --     frame-heard    nothing else is accepted
 use mathlib.Core.List.{List, _++_}
-use mathlib.Core.Path.{_≡_, refl, ap, ap₂, sym, _∙_}
+use mathlib.Core.Path.{_≡_, refl, ap, sym, _∙_}
 use Prim.Native.Nat.{ℕ, _+_, _≤_, _<_}
 use native.Mathlib.Omega.{arith}
 use lib.ListN.{length, take, drop, getD, length-take}
-use lib.Seq.{take-all, take-length}
+use lib.Seq.{take-all}
 use Rattle.ground.specs.Outcome.{Outcome}
 use Rattle.ground.proofs.ByteLaws.{Bytes}
 use Rattle.chips.specs.Chips.{chipCount}
-use Rattle.line.specs.Codes.{LineCode, chipsIn}
+use Rattle.line.specs.Codes.{chipsIn}
 use Rattle.line.specs.Decoding.{decoding}
 use Rattle.line.proofs.CodeLaws.{lawful}
 use Rattle.line.proofs.TripLaws.{Holds, length-decoding, decoding-lt}
@@ -65,11 +65,11 @@ module _ (k : Kind) (place t : ℕ) (s d : List ℕ) where
       let size : length (frameOf f c) ≡ frameSize f (length c) = length-frameOf f c in
       let is : decoding (lineOf k) s at (length (frameOf f c)) ≡ frameOf f c = holds-bytes (lineOf k) (lawful (codeFor k)) s at (frameOf f c) bytes holds in
       let l : lengthAt (lineOf k) s at ≡ formOf f .lengthByte (length c) =
-          sym (first-byte (lineOf k) s at (length (frameOf f c)) (some f c)) ∙ ap (λ (x : List ℕ). getD x 0 0) is ∙ head-is f c in
+      sym (first-byte (lineOf k) s at (length (frameOf f c)) (some f c)) ∙ ap (λ (x : List ℕ). getD x 0 0) is ∙ head-is f c in
       let sized : sizeFor f (lengthAt (lineOf k) s at) ≡ FrameSize.Bytes (frameSize f (length c)) (length c) = ap (sizeFor f) l ∙ sizeFor-frame f c (p .low) (p .high) in
       let read : readingOf f (frameOf f c) d ≡ record { answer = Reading.Accepted (frameSize f (length c)) (length c); memory = c ++ drop (length c) d } =
-          read-accepts f (frameOf f c) d (frameSize f (length c)) c
-          (record { low = p .low; high = p .high; size = refl; bytes = take-all (frameSize f (length c)) (frameOf f c) (omega (arith, size)) }) room in
+      read-accepts f (frameOf f c) d (frameSize f (length c)) c
+      (record { low = p .low; high = p .high; size = refl; bytes = take-all (frameSize f (length c)) (frameOf f c) (omega (arith, size)) }) room in
       coded-through (lineOf k) s at 1 d _ (through-less (lineOf k) s at 1 (length (frameOf f c)) (some f c) whole)
       ∙ ap (bySize k place t s d) sized
       ∙ coded-through (lineOf k) s at (frameSize f (length c)) d _ (rw size at whole)
@@ -118,26 +118,26 @@ module _ (k : Kind) (place t : ℕ) (s d : List ℕ) where
         let long : length got ≡ y = length-decoding (lineOf k) (lawful (codeFor k)) s at y in
         let begun : 0 < y = omega (arith, some f content, ap length cut, length-take z got) in
         let first : getD got 0 0 ≡ formOf f .lengthByte (length content) =
-            ap (λ (x : List ℕ). getD x 0 0) (frame-split f got z content frame ∙ ap (λ (x : List ℕ). x ++ drop z got) (frameOf-head f content)) in
+        ap (λ (x : List ℕ). getD x 0 0) (frame-split f got z content frame ∙ ap (λ (x : List ℕ). x ++ drop z got) (frameOf-head f content)) in
         let l : lengthAt (lineOf k) s at ≡ formOf f .lengthByte (length content) = sym (first-byte (lineOf k) s at y begun) ∙ first in
         let both : FrameSize.Bytes y m ≡ FrameSize.Bytes (frameSize f (length content)) (length content) =
-            sym sized ∙ ap (sizeFor f) l ∙ sizeFor-frame f content (frame .low) (frame .high) in
+        sym sized ∙ ap (sizeFor f) l ∙ sizeFor-frame f content (frame .low) (frame .high) in
         let y-is : y ≡ frameSize f (length content) = cc in
         let same : z ≡ y = frame .size ∙ sym y-is in
         let all : frameOf f content ≡ got = sym cut ∙ take-all z got (omega arith) in
-        record
-        { kind = told .1 .0
-        ; here = told .1 .1 .0
-        ; after = told .1 .1 .1
-        ; bytes = contentIn-bytes f n got (decoding-lt (lineOf k) (lawful (codeFor k)) s at y)
-        ; low = frame .low
-        ; high = frame .high
-        ; there = rw (all, long) (whole .there)
-        ; holds = rw all (through-holds (lineOf k) (lawful (codeFor k)) s at y whole)
-        ; count = handed .sized
-        ; size = frame .size ∙ ap (frameSize f) (handed .sized)
-        ; room = handed .room
-        ; memory = memory ∙ handed .memory
+        record {
+          kind = told .1 .0;
+          here = told .1 .1 .0;
+          after = told .1 .1 .1;
+          bytes = contentIn-bytes f n got (decoding-lt (lineOf k) (lawful (codeFor k)) s at y);
+          low = frame .low;
+          high = frame .high;
+          there = rw (all, long) (whole .there);
+          holds = rw all (through-holds (lineOf k) (lawful (codeFor k)) s at y whole);
+          count = handed .sized;
+          size = frame .size ∙ ap (frameSize f) (handed .sized);
+          room = handed .room;
+          memory = memory ∙ handed .memory;
         }
 
   -- the length byte says y bytes, of which all are accepted; or it is refused
@@ -147,9 +147,10 @@ module _ (k : Kind) (place t : ℕ) (s d : List ℕ) where
   by-size j p u z n (FrameSize.Bytes y m) sized o e =
       let next = toldBy k place t (readingOf (formatOf k) (decoding (lineOf k) s at y) d) in
       let whole : Through (lineOf k) s at y = coded-accepted (lineOf k) s at y d next j p u z n e in
-      let on : coded (lineOf k) s at y d next ≡ next = coded-through (lineOf k) s at y d next whole in
-      (contentIn (formatOf k) n (decoding (lineOf k) s at y),
-      read-out j p u z n y m sized whole (ap (λ (x : Outcome Reception). x .memory) (o ∙ on)) (sym (ap (λ (x : Outcome Reception). x .answer) on) ∙ e))
+      let on : coded (lineOf k) s at y d next ≡ next = coded-through (lineOf k) s at y d next whole in (
+        contentIn (formatOf k) n (decoding (lineOf k) s at y),
+        read-out j p u z n y m sized whole (ap (λ (x : Outcome Reception). x .memory) (o ∙ on)) (sym (ap (λ (x : Outcome Reception). x .answer) on) ∙ e),
+      )
   by-size j p u z n FrameSize.BadLength sized o e = absurd (not-accepted Reception.BadLength j p u z n (omega arith) e)
 
   pub frame-heard : (j : Kind) (p u z n : ℕ) → frameAfter k place t s d .answer ≡ Reception.Accepted j p u z n → (c : List ℕ) × FrameHeard j p u z n c

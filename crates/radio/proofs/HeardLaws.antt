@@ -5,7 +5,7 @@
 use mathlib.Core.Bool.{Bool, true, false, cond}
 use mathlib.Core.List.{List, _++_}
 use mathlib.Core.Path.{_≡_, refl, ap, ap₂, sym, _∙_, subst}
-use Prim.Native.Nat.{ℕ, _+_, _*_, _/_, _^_, _≤_, _<_}
+use Prim.Native.Nat.{ℕ, _+_, _/_, _≤_, _<_}
 use native.Mathlib.Nat.{add-zero, not-suc-le-zero}
 use native.Mathlib.Omega.{arith}
 use borrow.Author.Tests.{le-leb, leb-true}
@@ -33,18 +33,18 @@ use Rattle.sync.specs.declared.Sync.{Sync}
 use Rattle.sync.specs.declared.Tail.{Tail}
 use Rattle.sync.specs.Kinds.{leadOf}
 use Rattle.sync.specs.FirstMatch.{FirstAt}
-use Rattle.sync.specs.SyncSearch.{searchOf, syncWord, syncWidth, inRange}
-use Rattle.sync.specs.Tails.{tailOf, kindFor}
+use Rattle.sync.specs.SyncSearch.{searchOf, syncWord, syncWidth}
+use Rattle.sync.specs.Tails.{tailOf}
 use Rattle.sync.proofs.SearchLaws.{first-found, found-first}
 use Rattle.sync.proofs.TailLaws.{tailOf-there, TailFits, kindFor-fits, fits-kindFor, BegunBy, tailOf-begun}
 use Rattle.radio.specs.declared.Reception.{Reception}
-use Rattle.radio.specs.Kinds.{codeFor, lineOf, formatOf}
+use Rattle.radio.specs.Kinds.{lineOf, formatOf}
 use Rattle.radio.specs.Receiving.{frameAfter, byTail, bySync, receptionOf, manchesterOf}
 use Rattle.radio.specs.Sending.{sentChips, SentAt}
 use Rattle.radio.specs.Heard.{receivingOf, Reached, Heard, heardOf}
 use Rattle.radio.proofs.AirLaws.{SyncAt, sent-sync, sent-holds, sync-sent, words-sync, sync-tail-CA, sync-tail-CB}
 use Rattle.radio.proofs.ThroughLaws.{not-accepted}
-use Rattle.radio.proofs.FrameHeardLaws.{FrameHeard, frame-hears, frame-heard}
+use Rattle.radio.proofs.FrameHeardLaws.{frame-hears, frame-heard}
 
 -- the first six of sixteen chips
 first-six : (s : List ℕ) (at : ℕ) → wordAt s at 16 / 1024 ≡ wordAt s at 6
@@ -67,7 +67,7 @@ module _ (s : List ℕ) (place : ℕ) (c : List ℕ) where
       let some : 0 < length (frameOf A c) = omega (arith, length-frameOf A c, frameSize-A (length c)) in
       let run = decode-run (lineOf TWithA) (lawful ThreeOfSix) s (place + 16) (frameOf A c) (sent-holds TWithA c s place p) in
       let word : isWord (valueAt (lineOf TWithA) s (place + 16) 0) ≡ true =
-          goodRun-all (valueAt (lineOf TWithA) s (place + 16)) (wordsIn (lineOf TWithA) (length (frameOf A c))) run 0 (omega arith) in
+      goodRun-all (valueAt (lineOf TWithA) s (place + 16)) (wordsIn (lineOf TWithA) (length (frameOf A c))) run 0 (omega arith) in
       never-21 (wordAt s (place + 16 + 0) 6) (rw (add-zero (place + 16)) (sym (first-six s (place + 16)) ∙ e)) word
 
   there-T : SentAt TWithA s place c → place + 32 ≤ chipCount s
@@ -126,18 +126,21 @@ module _ (s : List ℕ) (start a : ℕ) (d : List ℕ) where
   from-frame q p u small reached sync k place t z n e =
       let found = frame-heard q p u s d k place t z n e in
       let c = found .0 in
-      let f = found .1 in
-      (c,
-      (moved q k p place u t z n c (f .kind) (f .here) (f .after)
-      (record
-      { small = small
-      ; reached = reached
-      ; sent = sync-sent q c s p (f .bytes) (f .low) (f .high) (f .there) sync (f .holds)
-      ; count = f .count
-      ; size = f .size
-      ; room = f .room
-      }),
-      f .memory))
+      let f = found .1 in (
+        c,
+        (
+          moved q k p place u t z n c (f .kind) (f .here) (f .after)
+              (record {
+                small = small;
+                reached = reached;
+                sent = sync-sent q c s p (f .bytes) (f .low) (f .high) (f .there) sync (f .holds);
+                count = f .count;
+                size = f .size;
+                room = f .room;
+              }),
+          f .memory,
+        ),
+      )
 
   -- the three kinds that are searched are reached by the first match
   by-search : (q : Kind) (x p u : ℕ) → TailFits q x → FirstAt syncWord syncWidth s start a p u → Reached q s start a p u
@@ -196,9 +199,12 @@ module _ (s : List ℕ) (start a : ℕ) (d : List ℕ) where
   heard j k place t z n e =
       let found = shown j k place t z n e in
       let c = found .0 in
-      let count : length c ≡ n = found .1 .0 .count in
-      (c,
-      (found .1 .0,
-      ap₂ (λ (x : Reception) (m : List ℕ). record { answer = x; memory = m })
-      (e ∙ ap (Reception.Accepted k place t z) (sym count))
-      (found .1 .1 ∙ ap (λ (y : ℕ). c ++ drop y d) (sym count))))
+      let count : length c ≡ n = found .1 .0 .count in (
+        c,
+        (
+          found .1 .0,
+          ap₂ (λ (x : Reception) (m : List ℕ). record { answer = x; memory = m })
+              (e ∙ ap (Reception.Accepted k place t z) (sym count))
+              (found .1 .1 ∙ ap (λ (y : ℕ). c ++ drop y d) (sym count)),
+        ),
+      )

@@ -3,6 +3,7 @@ pub mod CodedLaws
 pub mod FrameHeardLaws
 pub mod HeardLaws
 pub mod PutLaws
+pub mod RoundLaws
 pub mod SendLaws
 pub mod SizeLaws
 pub mod ThroughLaws

@@ -19,7 +19,6 @@ use lib.ListN.{length, getD}
 use Rattle.ground.specs.Outcome.{Outcome}
 use Rattle.ground.proofs.ByteLaws.{Bytes}
 use Rattle.chips.specs.Chips.{chipCount, gather}
-use Rattle.chips.specs.Packing.{tabulate}
 use Rattle.chips.proofs.PackingLaws.{packed-whole, getD-tabulate}
 use Rattle.line.specs.Codes.{LineCode, wordsIn, chipsIn}
 use Rattle.line.specs.Decoding.{valueAt, goodRun, decodedChip, decoding}
@@ -52,9 +51,9 @@ module _ (κ : LineCode) (s : List ℕ) (at n : ℕ) (d : List ℕ) (next : Outc
           → cond a (refused Reception.Short d) (cond b (refused (Reception.BadWord (goodRun (valueAt κ s at) (wordsIn κ n))) d) next) .answer ≡ Reception.Accepted k place t z m
           → Through κ s at n
       by-tests false p false q g =
-          record
-          { there = ltb-false (chipCount s) (at + chipsIn κ n) p
-          ; words = omega (arith, goodRun-le (valueAt κ s at) (wordsIn κ n), ltb-false (goodRun (valueAt κ s at) (wordsIn κ n)) (wordsIn κ n) q)
+          record {
+            there = ltb-false (chipCount s) (at + chipsIn κ n) p;
+            words = omega (arith, goodRun-le (valueAt κ s at) (wordsIn κ n), ltb-false (goodRun (valueAt κ s at) (wordsIn κ n)) (wordsIn κ n) q);
           }
       by-tests true p b q g = absurd (not-accepted Reception.Short k place t z m (omega arith) g)
       by-tests false p true q g =
@@ -63,9 +62,9 @@ module _ (κ : LineCode) (s : List ℕ) (at n : ℕ) (d : List ℕ) (next : Outc
 pub through-less : (κ : LineCode) (s : List ℕ) (at m n : ℕ) → m ≤ n → Through κ s at n → Through κ s at m
 through-less κ s at m n h p =
     let fewer : wordsIn κ m ≤ wordsIn κ n = mul-le-mul-right (8 / κ .bits) h in
-    record
-    { there = omega (arith, p .there, mul-le-mul-right (κ .chips) fewer)
-    ; words = goodRun-whole (valueAt κ s at) (wordsIn κ m) (λ i l. goodRun-all (valueAt κ s at) (wordsIn κ n) (p .words) i (omega arith))
+    record {
+      there = omega (arith, p .there, mul-le-mul-right (κ .chips) fewer);
+      words = goodRun-whole (valueAt κ s at) (wordsIn κ m) (λ i l. goodRun-all (valueAt κ s at) (wordsIn κ n) (p .words) i (omega arith));
     }
 
 -- the byte at 0 of n decoded bytes does not go by n
