@@ -5,18 +5,18 @@
  * What a caller must see to, and nothing else:
  *  - Every pointer is valid for its length and not NULL, also where the length is 0.
  *  - `results` points to as many numbers as its array bound says.
- *  - Memory that is lent to be written (out, frame, results) overlaps nothing else of the call.
+ *  - Memory that is lent to be written (out, frame, results, row, centre) overlaps nothing else of the call.
  * Every value of every number is allowed: any place, size, allowance, count or byte gets an answer. No call
  * stops the program, keeps a pointer, or reads past a length.
  *
- * Every function that returns `uint8_t` gives the answer's number, 0 for accepted:
+ * Every function that returns `uint8_t`, all but kusikhut_access, gives the answer's number, 0 for accepted:
  *    1 bytes or chips end too early    2 length byte not allowed     3 a block check is wrong
  *    4 lent output too small           5 content length not allowed  6 not a code word
  *    7 every position tried, no sync   8 sync tail unknown           9 change place not below n
  *   10 out of range (received chip buffer over 1,024 bytes, start above the chip count, filter count over 16,
  *      check distance over 125)       11 CI is none of the four     12 body shorter than its header, or empty
  *   13 no such channel                14 allowance used up, positions left, no sync
- * A refusal (any number but 0) changes no byte of lent memory. `results` is always written whole: the values named
+ * A refusal (any number but 0) changes no byte of `out` or `frame`. `results` is always written whole: the values named
  * below in this order, zero where the answer has no such value.
  *
  * A chip buffer holds its first chip in the highest bit of its first byte; a chip place counts from 0. */
