@@ -57,10 +57,12 @@ pub enum Changed {
 pub struct FormatA {}
 
 impl FormatA {
+    // The shortest and the longest content.
     pub const SHORTEST: usize = 10;
 
     pub const LONGEST: usize = 255;
 
+    // How many bytes the first check covers at most, L counted, and how many each later one.
     pub const FIRST: usize = 10;
 
     pub const LATER: usize = 16;
@@ -72,7 +74,7 @@ impl FormatA {
         n as u8
     }
 
-    // L, content and checks: one check for the first span, one for each begun 16 bytes after it.
+    // L, content and the first check, and a check for each begun 16 of the n - 9 bytes behind the first span.
     fn size(n: usize) -> usize
         requires { ⌜ n ≤ formOf Format.A .longest ⌝ }
         ensures { λ r. ⌜ r ≡ frameSize Format.A n ⌝ }
@@ -98,6 +100,7 @@ impl FormatA {
 pub struct FormatB {}
 
 impl FormatB {
+    // As for format A.
     pub const SHORTEST: usize = 10;
 
     pub const LONGEST: usize = 251;
