@@ -31,12 +31,12 @@ def faults(head):
         name = re.escape(result.group(1))
         # an equation with itself settles nothing
         direct = re.search(rf"⌜\s*\(?{name}\s+≡ (?!{name}\b)", settled)
-        in_record = re.search(rf"record \{{[^}}]*(answer|number) = {name}[;\s}}]", settled)
+        in_record = re.search(rf"record \{{[^}}]*answer = {name}[;\s}}]|shown {name} ", settled)
         if not (direct or in_record):
             found.append("its result stands in no equation")
     for lent in re.findall(r"(\w+): &(?:'\w+ )?mut ", signature):
         exit_value = rf"now \(«?{lent}»? \.exit\)"
-        if not re.search(rf"{exit_value}\s+≡ |(?:memory|results) = {exit_value}", settled):
+        if not re.search(rf"{exit_value}\s+≡ |memory = {exit_value}|shown \w+ [^≡]*{exit_value}[^≡]*≡ ", settled):
             found.append(f"what `{lent}` holds at exit stands in no equation")
     return found
 

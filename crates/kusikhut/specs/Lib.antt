@@ -1,3 +1,4 @@
 pub mod Told
 pub mod Values
 pub mod Fields
+pub mod Calls

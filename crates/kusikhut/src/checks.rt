@@ -2,9 +2,10 @@
 ghost use mathlib.Core.Path.{_≡_};
 ghost use mathlib.Core.List.{[]};
 ghost use Rattle.crc.specs.Check.{checkOf};
-ghost use Rattle.crc.specs.CheckUpdate.{updating, numberOf};
-ghost use Rattle.kusikhut.specs.Told.{Told, answered};
+ghost use Rattle.crc.specs.CheckUpdate.{numberOf};
+ghost use Rattle.kusikhut.specs.Told.{shown};
 ghost use Rattle.kusikhut.specs.Values.{updateValues};
+ghost use Rattle.kusikhut.specs.Calls.{toldUpdate};
 use crc::Updated;
 
 fn number(a: Updated) -> u8
@@ -40,8 +41,7 @@ pub extern "C" fn kusikhut_update(
     distance: usize,
     results: &mut [u64; 1],
 ) -> u8
-    ensures { λ r. ⌜ _≡_ {A = Told} (record { number = r; results = now (results .exit); memory = [] })
-        (answered numberOf updateValues (updating «old_check» «old_byte» «new_byte» distance)) ⌝ }
+    ensures { λ r. ⌜ shown r (now (results .exit)) [] ≡ toldUpdate «old_check» «old_byte» «new_byte» distance ⌝ }
 {
     let a = crc::update(old_check, old_byte, new_byte, distance);
     *results = values(a);

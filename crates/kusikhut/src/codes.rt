@@ -1,13 +1,13 @@
 // The line codes alone.
 ghost use mathlib.Core.Path.{_≡_};
 ghost use mathlib.Core.List.{[]};
-ghost use Rattle.line.specs.Codes.{codeOf};
 ghost use Rattle.line.specs.Decoding as decoding;
 ghost use Rattle.line.specs.Encoding as encoding;
 ghost use Rattle.line.specs.OneWord as one;
 ghost use Rattle.line.specs.declared.Code.the-variants.{Nrz, ThreeOfSix, Manchester};
-ghost use Rattle.kusikhut.specs.Told.{Told, told, answered};
+ghost use Rattle.kusikhut.specs.Told.{shown};
 ghost use Rattle.kusikhut.specs.Values.{decodeValues, encodeValues, wordValues};
+ghost use Rattle.kusikhut.specs.Calls.{toldDecode, toldEncode, toldWord};
 use line::Code;
 use line::Decoded;
 use line::Encoded;
@@ -45,9 +45,7 @@ fn decode(
     out: &mut [u8],
     results: &mut [u64; 1],
 ) -> u8
-    ensures { λ r. ⌜ _≡_ {A = Told} (record { number = r; results = now (results .exit); memory = now (out .exit) })
-        (told decoding.numberOf decodeValues
-        (decoding.decoded (codeOf code) (now (chips .entry)) start n (now (out .entry)))) ⌝ }
+    ensures { λ r. ⌜ shown r (now (results .exit)) (now (out .exit)) ≡ toldDecode code (now (chips .entry)) start n (now (out .entry)) ⌝ }
 {
     let a = line::decode(code, chips, start, n, out);
     *results = decode_values(a);
@@ -62,9 +60,7 @@ pub extern "C" fn kusikhut_decode_nrz(
     out: &mut [u8],
     results: &mut [u64; 1],
 ) -> u8
-    ensures { λ r. ⌜ _≡_ {A = Told} (record { number = r; results = now (results .exit); memory = now (out .exit) })
-        (told decoding.numberOf decodeValues
-        (decoding.decoded (codeOf Nrz) (now (chips .entry)) start n (now (out .entry)))) ⌝ }
+    ensures { λ r. ⌜ shown r (now (results .exit)) (now (out .exit)) ≡ toldDecode Nrz (now (chips .entry)) start n (now (out .entry)) ⌝ }
 {
     decode(Code::Nrz, chips, start, n, out, results)
 }
@@ -77,9 +73,7 @@ pub extern "C" fn kusikhut_decode_three_of_six(
     out: &mut [u8],
     results: &mut [u64; 1],
 ) -> u8
-    ensures { λ r. ⌜ _≡_ {A = Told} (record { number = r; results = now (results .exit); memory = now (out .exit) })
-        (told decoding.numberOf decodeValues
-        (decoding.decoded (codeOf ThreeOfSix) (now (chips .entry)) start n (now (out .entry)))) ⌝ }
+    ensures { λ r. ⌜ shown r (now (results .exit)) (now (out .exit)) ≡ toldDecode ThreeOfSix (now (chips .entry)) start n (now (out .entry)) ⌝ }
 {
     decode(Code::ThreeOfSix, chips, start, n, out, results)
 }
@@ -92,9 +86,7 @@ pub extern "C" fn kusikhut_decode_manchester(
     out: &mut [u8],
     results: &mut [u64; 1],
 ) -> u8
-    ensures { λ r. ⌜ _≡_ {A = Told} (record { number = r; results = now (results .exit); memory = now (out .exit) })
-        (told decoding.numberOf decodeValues
-        (decoding.decoded (codeOf Manchester) (now (chips .entry)) start n (now (out .entry)))) ⌝ }
+    ensures { λ r. ⌜ shown r (now (results .exit)) (now (out .exit)) ≡ toldDecode Manchester (now (chips .entry)) start n (now (out .entry)) ⌝ }
 {
     decode(Code::Manchester, chips, start, n, out, results)
 }
@@ -118,8 +110,7 @@ fn encode_values(a: Encoded) -> [u64; 1]
 }
 
 fn encode(code: Code, bytes: &[u8], out: &mut [u8], results: &mut [u64; 1]) -> u8
-    ensures { λ r. ⌜ _≡_ {A = Told} (record { number = r; results = now (results .exit); memory = now (out .exit) })
-        (told encoding.numberOf encodeValues (encoding.encoded (codeOf code) (now (bytes .entry)) (now (out .entry)))) ⌝ }
+    ensures { λ r. ⌜ shown r (now (results .exit)) (now (out .exit)) ≡ toldEncode code (now (bytes .entry)) (now (out .entry)) ⌝ }
 {
     let a = line::encode(code, bytes, out);
     *results = encode_values(a);
@@ -128,8 +119,7 @@ fn encode(code: Code, bytes: &[u8], out: &mut [u8], results: &mut [u64; 1]) -> u
 
 #[no_mangle]
 pub extern "C" fn kusikhut_encode_nrz(bytes: &[u8], out: &mut [u8], results: &mut [u64; 1]) -> u8
-    ensures { λ r. ⌜ _≡_ {A = Told} (record { number = r; results = now (results .exit); memory = now (out .exit) })
-        (told encoding.numberOf encodeValues (encoding.encoded (codeOf Nrz) (now (bytes .entry)) (now (out .entry)))) ⌝ }
+    ensures { λ r. ⌜ shown r (now (results .exit)) (now (out .exit)) ≡ toldEncode Nrz (now (bytes .entry)) (now (out .entry)) ⌝ }
 {
     encode(Code::Nrz, bytes, out, results)
 }
@@ -140,8 +130,7 @@ pub extern "C" fn kusikhut_encode_three_of_six(
     out: &mut [u8],
     results: &mut [u64; 1],
 ) -> u8
-    ensures { λ r. ⌜ _≡_ {A = Told} (record { number = r; results = now (results .exit); memory = now (out .exit) })
-        (told encoding.numberOf encodeValues (encoding.encoded (codeOf ThreeOfSix) (now (bytes .entry)) (now (out .entry)))) ⌝ }
+    ensures { λ r. ⌜ shown r (now (results .exit)) (now (out .exit)) ≡ toldEncode ThreeOfSix (now (bytes .entry)) (now (out .entry)) ⌝ }
 {
     encode(Code::ThreeOfSix, bytes, out, results)
 }
@@ -152,8 +141,7 @@ pub extern "C" fn kusikhut_encode_manchester(
     out: &mut [u8],
     results: &mut [u64; 1],
 ) -> u8
-    ensures { λ r. ⌜ _≡_ {A = Told} (record { number = r; results = now (results .exit); memory = now (out .exit) })
-        (told encoding.numberOf encodeValues (encoding.encoded (codeOf Manchester) (now (bytes .entry)) (now (out .entry)))) ⌝ }
+    ensures { λ r. ⌜ shown r (now (results .exit)) (now (out .exit)) ≡ toldEncode Manchester (now (bytes .entry)) (now (out .entry)) ⌝ }
 {
     encode(Code::Manchester, bytes, out, results)
 }
@@ -181,8 +169,7 @@ fn word_values(a: Word) -> [u64; 1]
 }
 
 fn word(code: Code, chips: &[u8], at: usize, results: &mut [u64; 1]) -> u8
-    ensures { λ r. ⌜ _≡_ {A = Told} (record { number = r; results = now (results .exit); memory = [] })
-        (answered one.numberOf wordValues (one.wordRead (codeOf code) (now (chips .entry)) at)) ⌝ }
+    ensures { λ r. ⌜ shown r (now (results .exit)) [] ≡ toldWord code (now (chips .entry)) at ⌝ }
 {
     let a = line::word_at(code, chips, at);
     *results = word_values(a);
@@ -191,24 +178,21 @@ fn word(code: Code, chips: &[u8], at: usize, results: &mut [u64; 1]) -> u8
 
 #[no_mangle]
 pub extern "C" fn kusikhut_word_nrz(chips: &[u8], at: usize, results: &mut [u64; 1]) -> u8
-    ensures { λ r. ⌜ _≡_ {A = Told} (record { number = r; results = now (results .exit); memory = [] })
-        (answered one.numberOf wordValues (one.wordRead (codeOf Nrz) (now (chips .entry)) at)) ⌝ }
+    ensures { λ r. ⌜ shown r (now (results .exit)) [] ≡ toldWord Nrz (now (chips .entry)) at ⌝ }
 {
     word(Code::Nrz, chips, at, results)
 }
 
 #[no_mangle]
 pub extern "C" fn kusikhut_word_three_of_six(chips: &[u8], at: usize, results: &mut [u64; 1]) -> u8
-    ensures { λ r. ⌜ _≡_ {A = Told} (record { number = r; results = now (results .exit); memory = [] })
-        (answered one.numberOf wordValues (one.wordRead (codeOf ThreeOfSix) (now (chips .entry)) at)) ⌝ }
+    ensures { λ r. ⌜ shown r (now (results .exit)) [] ≡ toldWord ThreeOfSix (now (chips .entry)) at ⌝ }
 {
     word(Code::ThreeOfSix, chips, at, results)
 }
 
 #[no_mangle]
 pub extern "C" fn kusikhut_word_manchester(chips: &[u8], at: usize, results: &mut [u64; 1]) -> u8
-    ensures { λ r. ⌜ _≡_ {A = Told} (record { number = r; results = now (results .exit); memory = [] })
-        (answered one.numberOf wordValues (one.wordRead (codeOf Manchester) (now (chips .entry)) at)) ⌝ }
+    ensures { λ r. ⌜ shown r (now (results .exit)) [] ≡ toldWord Manchester (now (chips .entry)) at ⌝ }
 {
     word(Code::Manchester, chips, at, results)
 }

@@ -1,14 +1,11 @@
 // Frames as bytes, in formats A and B.
 ghost use mathlib.Core.Path.{_≡_};
 ghost use mathlib.Core.List.{[]};
-ghost use Rattle.frame.specs.Formats.{sizeFor};
-ghost use Rattle.frame.specs.Reads.{readingOf};
-ghost use Rattle.frame.specs.Writes.{writingOf};
-ghost use Rattle.frame.specs.Changes.{changingOf};
 ghost use Rattle.frame.specs.Numbers.{numberOfSize, numberOfReading, numberOfWritten, numberOfChanged};
 ghost use Rattle.frame.specs.declared.Format.{Format};
-ghost use Rattle.kusikhut.specs.Told.{Told, told, answered};
+ghost use Rattle.kusikhut.specs.Told.{shown};
 ghost use Rattle.kusikhut.specs.Values.{sizeValues, readValues, writeValues, changeValues};
+ghost use Rattle.kusikhut.specs.Calls.{toldSize, toldRead, toldWrite, toldChange};
 use frame::Changed;
 use frame::Format;
 use frame::FrameSize;
@@ -34,8 +31,7 @@ fn size_values(a: FrameSize) -> [u64; 1]
 }
 
 fn frame_size(f: Format, l: u8, results: &mut [u64; 1]) -> u8
-    ensures { λ r. ⌜ _≡_ {A = Told} (record { number = r; results = now (results .exit); memory = [] })
-        (answered numberOfSize sizeValues (sizeFor f l)) ⌝ }
+    ensures { λ r. ⌜ shown r (now (results .exit)) [] ≡ toldSize f l ⌝ }
 {
     let a = f.frame_size(l);
     *results = size_values(a);
@@ -44,16 +40,14 @@ fn frame_size(f: Format, l: u8, results: &mut [u64; 1]) -> u8
 
 #[no_mangle]
 pub extern "C" fn kusikhut_frame_size_a(l: u8, results: &mut [u64; 1]) -> u8
-    ensures { λ r. ⌜ _≡_ {A = Told} (record { number = r; results = now (results .exit); memory = [] })
-        (answered numberOfSize sizeValues (sizeFor Format.A l)) ⌝ }
+    ensures { λ r. ⌜ shown r (now (results .exit)) [] ≡ toldSize Format.A l ⌝ }
 {
     frame_size(Format::A, l, results)
 }
 
 #[no_mangle]
 pub extern "C" fn kusikhut_frame_size_b(l: u8, results: &mut [u64; 1]) -> u8
-    ensures { λ r. ⌜ _≡_ {A = Told} (record { number = r; results = now (results .exit); memory = [] })
-        (answered numberOfSize sizeValues (sizeFor Format.B l)) ⌝ }
+    ensures { λ r. ⌜ shown r (now (results .exit)) [] ≡ toldSize Format.B l ⌝ }
 {
     frame_size(Format::B, l, results)
 }
@@ -83,8 +77,7 @@ fn read_values(a: Reading) -> [u64; 3]
 }
 
 fn read(f: Format, bytes: &[u8], out: &mut [u8], results: &mut [u64; 3]) -> u8
-    ensures { λ r. ⌜ _≡_ {A = Told} (record { number = r; results = now (results .exit); memory = now (out .exit) })
-        (told numberOfReading readValues (readingOf f (now (bytes .entry)) (now (out .entry)))) ⌝ }
+    ensures { λ r. ⌜ shown r (now (results .exit)) (now (out .exit)) ≡ toldRead f (now (bytes .entry)) (now (out .entry)) ⌝ }
 {
     let a = frame::read(f, bytes, out);
     *results = read_values(a);
@@ -93,16 +86,14 @@ fn read(f: Format, bytes: &[u8], out: &mut [u8], results: &mut [u64; 3]) -> u8
 
 #[no_mangle]
 pub extern "C" fn kusikhut_read_a(bytes: &[u8], out: &mut [u8], results: &mut [u64; 3]) -> u8
-    ensures { λ r. ⌜ _≡_ {A = Told} (record { number = r; results = now (results .exit); memory = now (out .exit) })
-        (told numberOfReading readValues (readingOf Format.A (now (bytes .entry)) (now (out .entry)))) ⌝ }
+    ensures { λ r. ⌜ shown r (now (results .exit)) (now (out .exit)) ≡ toldRead Format.A (now (bytes .entry)) (now (out .entry)) ⌝ }
 {
     read(Format::A, bytes, out, results)
 }
 
 #[no_mangle]
 pub extern "C" fn kusikhut_read_b(bytes: &[u8], out: &mut [u8], results: &mut [u64; 3]) -> u8
-    ensures { λ r. ⌜ _≡_ {A = Told} (record { number = r; results = now (results .exit); memory = now (out .exit) })
-        (told numberOfReading readValues (readingOf Format.B (now (bytes .entry)) (now (out .entry)))) ⌝ }
+    ensures { λ r. ⌜ shown r (now (results .exit)) (now (out .exit)) ≡ toldRead Format.B (now (bytes .entry)) (now (out .entry)) ⌝ }
 {
     read(Format::B, bytes, out, results)
 }
@@ -128,8 +119,7 @@ fn write_values(a: Written) -> [u64; 1]
 }
 
 fn write(f: Format, content: &[u8], out: &mut [u8], results: &mut [u64; 1]) -> u8
-    ensures { λ r. ⌜ _≡_ {A = Told} (record { number = r; results = now (results .exit); memory = now (out .exit) })
-        (told numberOfWritten writeValues (writingOf f (now (content .entry)) (now (out .entry)))) ⌝ }
+    ensures { λ r. ⌜ shown r (now (results .exit)) (now (out .exit)) ≡ toldWrite f (now (content .entry)) (now (out .entry)) ⌝ }
 {
     let a = frame::write(f, content, out);
     *results = write_values(a);
@@ -138,16 +128,14 @@ fn write(f: Format, content: &[u8], out: &mut [u8], results: &mut [u64; 1]) -> u
 
 #[no_mangle]
 pub extern "C" fn kusikhut_write_a(content: &[u8], out: &mut [u8], results: &mut [u64; 1]) -> u8
-    ensures { λ r. ⌜ _≡_ {A = Told} (record { number = r; results = now (results .exit); memory = now (out .exit) })
-        (told numberOfWritten writeValues (writingOf Format.A (now (content .entry)) (now (out .entry)))) ⌝ }
+    ensures { λ r. ⌜ shown r (now (results .exit)) (now (out .exit)) ≡ toldWrite Format.A (now (content .entry)) (now (out .entry)) ⌝ }
 {
     write(Format::A, content, out, results)
 }
 
 #[no_mangle]
 pub extern "C" fn kusikhut_write_b(content: &[u8], out: &mut [u8], results: &mut [u64; 1]) -> u8
-    ensures { λ r. ⌜ _≡_ {A = Told} (record { number = r; results = now (results .exit); memory = now (out .exit) })
-        (told numberOfWritten writeValues (writingOf Format.B (now (content .entry)) (now (out .entry)))) ⌝ }
+    ensures { λ r. ⌜ shown r (now (results .exit)) (now (out .exit)) ≡ toldWrite Format.B (now (content .entry)) (now (out .entry)) ⌝ }
 {
     write(Format::B, content, out, results)
 }
@@ -177,8 +165,7 @@ fn change_values(a: Changed) -> [u64; 3]
 }
 
 fn change(f: Format, bytes: &mut [u8], place: usize, byte: u8, results: &mut [u64; 3]) -> u8
-    ensures { λ r. ⌜ _≡_ {A = Told} (record { number = r; results = now (results .exit); memory = now (bytes .exit) })
-        (told numberOfChanged changeValues (changingOf f (now (bytes .entry)) place byte)) ⌝ }
+    ensures { λ r. ⌜ shown r (now (results .exit)) (now (bytes .exit)) ≡ toldChange f (now (bytes .entry)) place byte ⌝ }
 {
     let a = frame::change(f, bytes, place, byte);
     *results = change_values(a);
@@ -192,8 +179,7 @@ pub extern "C" fn kusikhut_change_a(
     byte: u8,
     results: &mut [u64; 3],
 ) -> u8
-    ensures { λ r. ⌜ _≡_ {A = Told} (record { number = r; results = now (results .exit); memory = now (bytes .exit) })
-        (told numberOfChanged changeValues (changingOf Format.A (now (bytes .entry)) place byte)) ⌝ }
+    ensures { λ r. ⌜ shown r (now (results .exit)) (now (bytes .exit)) ≡ toldChange Format.A (now (bytes .entry)) place byte ⌝ }
 {
     change(Format::A, bytes, place, byte, results)
 }
@@ -205,8 +191,7 @@ pub extern "C" fn kusikhut_change_b(
     byte: u8,
     results: &mut [u64; 3],
 ) -> u8
-    ensures { λ r. ⌜ _≡_ {A = Told} (record { number = r; results = now (results .exit); memory = now (bytes .exit) })
-        (told numberOfChanged changeValues (changingOf Format.B (now (bytes .entry)) place byte)) ⌝ }
+    ensures { λ r. ⌜ shown r (now (results .exit)) (now (bytes .exit)) ≡ toldChange Format.B (now (bytes .entry)) place byte ⌝ }
 {
     change(Format::B, bytes, place, byte, results)
 }

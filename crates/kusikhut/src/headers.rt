@@ -3,13 +3,13 @@ ghost use mathlib.Core.Path.{_≡_};
 ghost use mathlib.Core.List.{[]};
 ghost use Rattle.header.specs.AccessBits.{accessOf, rowOf};
 ghost use Rattle.header.specs.Layout.{ciOf};
-ghost use Rattle.header.specs.Letters as maker;
 ghost use Rattle.header.specs.Reading as reading;
 ghost use Rattle.header.specs.Writing as writing;
 ghost use Rattle.header.specs.declared.Kind.the-variants.{Plain, Secured, Addressed, AddressedSecured};
-ghost use Rattle.kusikhut.specs.Told.{Told, told, answered};
+ghost use Rattle.kusikhut.specs.Told.{shown};
 ghost use Rattle.kusikhut.specs.Values.{headerValues, headerWriteValues, letterValues};
 ghost use Rattle.kusikhut.specs.Fields.{headerOf, receiverOf, sessionOf, noReceiver, noSession};
+ghost use Rattle.kusikhut.specs.Calls.{toldHeader, toldHeaderWrite, toldLetters};
 use header::Access;
 use header::Address;
 use header::Header;
@@ -80,8 +80,7 @@ fn read_values(a: HeaderReading) -> [u64; 14]
 
 #[no_mangle]
 pub extern "C" fn kusikhut_header_read(body: &[u8], results: &mut [u64; 14]) -> u8
-    ensures { λ r. ⌜ _≡_ {A = Told} (record { number = r; results = now (results .exit); memory = [] })
-        (answered reading.numberOf headerValues (reading.readingOf (now (body .entry)))) ⌝ }
+    ensures { λ r. ⌜ shown r (now (results .exit)) [] ≡ toldHeader (now (body .entry)) ⌝ }
 {
     let a = header::read(body);
     *results = read_values(a);
@@ -107,8 +106,7 @@ fn write_values(a: HeaderWritten) -> [u64; 1]
 }
 
 fn write(h: Header, out: &mut [u8], results: &mut [u64; 1]) -> u8
-    ensures { λ r. ⌜ _≡_ {A = Told} (record { number = r; results = now (results .exit); memory = now (out .exit) })
-        (told writing.numberOf headerWriteValues (writing.writingOf h (now (out .entry)))) ⌝ }
+    ensures { λ r. ⌜ shown r (now (results .exit)) (now (out .exit)) ≡ toldHeaderWrite h (now (out .entry)) ⌝ }
 {
     let a = header::write(h, out);
     *results = write_values(a);
@@ -158,9 +156,7 @@ pub extern "C" fn kusikhut_header_write_8c(
     out: &mut [u8],
     results: &mut [u64; 1],
 ) -> u8
-    ensures { λ r. ⌜ _≡_ {A = Told} (record { number = r; results = now (results .exit); memory = now (out .exit) })
-        (told writing.numberOf headerWriteValues
-        (writing.writingOf (headerOf Plain cc acc noReceiver noSession) (now (out .entry)))) ⌝ }
+    ensures { λ r. ⌜ shown r (now (results .exit)) (now (out .exit)) ≡ toldHeaderWrite (headerOf Plain cc acc noReceiver noSession) (now (out .entry)) ⌝ }
 {
     let receiver = no_receiver();
     let session = no_session();
@@ -183,9 +179,7 @@ pub extern "C" fn kusikhut_header_write_8d(
     out: &mut [u8],
     results: &mut [u64; 1],
 ) -> u8
-    ensures { λ r. ⌜ _≡_ {A = Told} (record { number = r; results = now (results .exit); memory = now (out .exit) })
-        (told writing.numberOf headerWriteValues
-        (writing.writingOf (headerOf Secured cc acc noReceiver (sessionOf sn (now (crc .entry)))) (now (out .entry)))) ⌝ }
+    ensures { λ r. ⌜ shown r (now (results .exit)) (now (out .exit)) ≡ toldHeaderWrite (headerOf Secured cc acc noReceiver (sessionOf sn (now (crc .entry)))) (now (out .entry)) ⌝ }
 {
     let receiver = no_receiver();
     let session = session_of(sn, crc);
@@ -208,9 +202,7 @@ pub extern "C" fn kusikhut_header_write_8e(
     out: &mut [u8],
     results: &mut [u64; 1],
 ) -> u8
-    ensures { λ r. ⌜ _≡_ {A = Told} (record { number = r; results = now (results .exit); memory = now (out .exit) })
-        (told writing.numberOf headerWriteValues
-        (writing.writingOf (headerOf Addressed cc acc (receiverOf m2 (now (a2 .entry))) noSession) (now (out .entry)))) ⌝ }
+    ensures { λ r. ⌜ shown r (now (results .exit)) (now (out .exit)) ≡ toldHeaderWrite (headerOf Addressed cc acc (receiverOf m2 (now (a2 .entry))) noSession) (now (out .entry)) ⌝ }
 {
     let receiver = receiver_of(m2, a2);
     let session = no_session();
@@ -235,11 +227,7 @@ pub extern "C" fn kusikhut_header_write_8f(
     out: &mut [u8],
     results: &mut [u64; 1],
 ) -> u8
-    ensures { λ r. ⌜ _≡_ {A = Told} (record { number = r; results = now (results .exit); memory = now (out .exit) })
-        (told writing.numberOf headerWriteValues
-        (writing.writingOf
-        (headerOf AddressedSecured cc acc (receiverOf m2 (now (a2 .entry))) (sessionOf sn (now (crc .entry))))
-        (now (out .entry)))) ⌝ }
+    ensures { λ r. ⌜ shown r (now (results .exit)) (now (out .exit)) ≡ toldHeaderWrite (headerOf AddressedSecured cc acc (receiverOf m2 (now (a2 .entry))) (sessionOf sn (now (crc .entry)))) (now (out .entry)) ⌝ }
 {
     let receiver = receiver_of(m2, a2);
     let session = session_of(sn, crc);
@@ -282,8 +270,7 @@ fn letter_values(a: Maker) -> [u64; 4]
 
 #[no_mangle]
 pub extern "C" fn kusikhut_letters(m: u16, results: &mut [u64; 4]) -> u8
-    ensures { λ r. ⌜ _≡_ {A = Told} (record { number = r; results = now (results .exit); memory = [] })
-        (answered maker.numberOf letterValues (maker.lettersOf m)) ⌝ }
+    ensures { λ r. ⌜ shown r (now (results .exit)) [] ≡ toldLetters m ⌝ }
 {
     let a = header::letters(m);
     *results = letter_values(a);

@@ -1,9 +1,10 @@
 // The meter filter.
 ghost use mathlib.Core.Path.{_≡_};
 ghost use mathlib.Core.List.{[]};
-ghost use Rattle.filter.specs.Listed.{verdictOf, numberOf};
-ghost use Rattle.kusikhut.specs.Told.{Told, answered};
+ghost use Rattle.filter.specs.Listed.{numberOf};
+ghost use Rattle.kusikhut.specs.Told.{shown};
 ghost use Rattle.kusikhut.specs.Values.{filterValues};
+ghost use Rattle.kusikhut.specs.Calls.{toldFilter};
 use filter::Verdict;
 
 fn number(a: Verdict) -> u8
@@ -35,8 +36,7 @@ pub extern "C" fn kusikhut_filter(
     content: &[u8],
     results: &mut [u64; 1],
 ) -> u8
-    ensures { λ r. ⌜ _≡_ {A = Told} (record { number = r; results = now (results .exit); memory = [] })
-        (answered numberOf filterValues (verdictOf (now (entries .entry)) count (now (content .entry)))) ⌝ }
+    ensures { λ r. ⌜ shown r (now (results .exit)) [] ≡ toldFilter (now (entries .entry)) count (now (content .entry)) ⌝ }
 {
     let a = filter::wanted(*entries, count, content);
     *results = values(a);

@@ -1,10 +1,10 @@
 // Mode N: rows, centres and the lines of a band.
 ghost use mathlib.Core.Path.{_≡_};
 ghost use mathlib.Core.List.{[], _∷_};
-ghost use Rattle.channels.specs.Listing.{bandOf, lineAt};
 ghost use Rattle.channels.specs.Plan.{rowOf, centreOf, numberOf};
-ghost use Rattle.kusikhut.specs.Told.{Told, answered};
+ghost use Rattle.kusikhut.specs.Told.{shown};
 ghost use Rattle.kusikhut.specs.Values.{lineValues, lineNumber, centreValue};
+ghost use Rattle.kusikhut.specs.Calls.{toldLine};
 use channels::Centre;
 use channels::Line;
 
@@ -63,8 +63,7 @@ fn line_values(a: Line) -> [u64; 3]
 
 #[no_mangle]
 pub extern "C" fn kusikhut_band_line(band: &[u8], k: usize, results: &mut [u64; 3]) -> u8
-    ensures { λ r. ⌜ _≡_ {A = Told} (record { number = r; results = now (results .exit); memory = [] })
-        (answered lineNumber lineValues (lineAt (bandOf (now (band .entry))) k)) ⌝ }
+    ensures { λ r. ⌜ shown r (now (results .exit)) [] ≡ toldLine (now (band .entry)) k ⌝ }
 {
     let a = channels::line_at(channels::band_of(band), k);
     *results = line_values(a);

@@ -3,8 +3,9 @@ ghost use mathlib.Core.Path.{_≡_};
 ghost use Rattle.radio.specs.Receiving as receiving;
 ghost use Rattle.radio.specs.Sending as sending;
 ghost use Rattle.sync.specs.declared.Kind.the-variants.{TWithA, CWithA, CWithB, ManchesterWithA};
-ghost use Rattle.kusikhut.specs.Told.{Told, told};
+ghost use Rattle.kusikhut.specs.Told.{shown};
 ghost use Rattle.kusikhut.specs.Values.{receiveValues, sendValues, kindValue};
+ghost use Rattle.kusikhut.specs.Calls.{toldReceive, toldManchester, toldSend};
 use radio::Reception;
 use radio::Sent;
 use sync::Kind;
@@ -82,9 +83,7 @@ pub extern "C" fn kusikhut_receive(
     out: &mut [u8],
     results: &mut [u64; 7],
 ) -> u8
-    ensures { λ r. ⌜ _≡_ {A = Told} (record { number = r; results = now (results .exit); memory = now (out .exit) })
-        (told receiving.numberOf receiveValues
-        (receiving.receptionOf (now (chips .entry)) start allowance (now (out .entry)))) ⌝ }
+    ensures { λ r. ⌜ shown r (now (results .exit)) (now (out .exit)) ≡ toldReceive (now (chips .entry)) start allowance (now (out .entry)) ⌝ }
 {
     let a = radio::receive(chips, start, allowance, out);
     *results = receive_values(a);
@@ -98,8 +97,7 @@ pub extern "C" fn kusikhut_receive_manchester(
     out: &mut [u8],
     results: &mut [u64; 7],
 ) -> u8
-    ensures { λ r. ⌜ _≡_ {A = Told} (record { number = r; results = now (results .exit); memory = now (out .exit) })
-        (told receiving.numberOf receiveValues (receiving.manchesterOf (now (chips .entry)) start (now (out .entry)))) ⌝ }
+    ensures { λ r. ⌜ shown r (now (results .exit)) (now (out .exit)) ≡ toldManchester (now (chips .entry)) start (now (out .entry)) ⌝ }
 {
     let a = radio::receive_manchester(chips, start, out);
     *results = receive_values(a);
@@ -127,8 +125,7 @@ fn send_values(a: Sent) -> [u64; 1]
 }
 
 fn send(kind: Kind, content: &[u8], out: &mut [u8], results: &mut [u64; 1]) -> u8
-    ensures { λ r. ⌜ _≡_ {A = Told} (record { number = r; results = now (results .exit); memory = now (out .exit) })
-        (told sending.numberOf sendValues (sending.sendingOf kind (now (content .entry)) (now (out .entry)))) ⌝ }
+    ensures { λ r. ⌜ shown r (now (results .exit)) (now (out .exit)) ≡ toldSend kind (now (content .entry)) (now (out .entry)) ⌝ }
 {
     let a = radio::send(kind, content, out);
     *results = send_values(a);
@@ -137,24 +134,21 @@ fn send(kind: Kind, content: &[u8], out: &mut [u8], results: &mut [u64; 1]) -> u
 
 #[no_mangle]
 pub extern "C" fn kusikhut_send_t_a(content: &[u8], out: &mut [u8], results: &mut [u64; 1]) -> u8
-    ensures { λ r. ⌜ _≡_ {A = Told} (record { number = r; results = now (results .exit); memory = now (out .exit) })
-        (told sending.numberOf sendValues (sending.sendingOf TWithA (now (content .entry)) (now (out .entry)))) ⌝ }
+    ensures { λ r. ⌜ shown r (now (results .exit)) (now (out .exit)) ≡ toldSend TWithA (now (content .entry)) (now (out .entry)) ⌝ }
 {
     send(Kind::TWithA, content, out, results)
 }
 
 #[no_mangle]
 pub extern "C" fn kusikhut_send_c_a(content: &[u8], out: &mut [u8], results: &mut [u64; 1]) -> u8
-    ensures { λ r. ⌜ _≡_ {A = Told} (record { number = r; results = now (results .exit); memory = now (out .exit) })
-        (told sending.numberOf sendValues (sending.sendingOf CWithA (now (content .entry)) (now (out .entry)))) ⌝ }
+    ensures { λ r. ⌜ shown r (now (results .exit)) (now (out .exit)) ≡ toldSend CWithA (now (content .entry)) (now (out .entry)) ⌝ }
 {
     send(Kind::CWithA, content, out, results)
 }
 
 #[no_mangle]
 pub extern "C" fn kusikhut_send_c_b(content: &[u8], out: &mut [u8], results: &mut [u64; 1]) -> u8
-    ensures { λ r. ⌜ _≡_ {A = Told} (record { number = r; results = now (results .exit); memory = now (out .exit) })
-        (told sending.numberOf sendValues (sending.sendingOf CWithB (now (content .entry)) (now (out .entry)))) ⌝ }
+    ensures { λ r. ⌜ shown r (now (results .exit)) (now (out .exit)) ≡ toldSend CWithB (now (content .entry)) (now (out .entry)) ⌝ }
 {
     send(Kind::CWithB, content, out, results)
 }
@@ -165,8 +159,7 @@ pub extern "C" fn kusikhut_send_manchester_a(
     out: &mut [u8],
     results: &mut [u64; 1],
 ) -> u8
-    ensures { λ r. ⌜ _≡_ {A = Told} (record { number = r; results = now (results .exit); memory = now (out .exit) })
-        (told sending.numberOf sendValues (sending.sendingOf ManchesterWithA (now (content .entry)) (now (out .entry)))) ⌝ }
+    ensures { λ r. ⌜ shown r (now (results .exit)) (now (out .exit)) ≡ toldSend ManchesterWithA (now (content .entry)) (now (out .entry)) ⌝ }
 {
     send(Kind::ManchesterWithA, content, out, results)
 }

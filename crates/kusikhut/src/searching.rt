@@ -1,9 +1,10 @@
 // The sync search.
 ghost use mathlib.Core.Path.{_≡_};
 ghost use mathlib.Core.List.{[]};
-ghost use Rattle.sync.specs.SyncSearch.{searchOf, numberOf};
-ghost use Rattle.kusikhut.specs.Told.{Told, answered};
+ghost use Rattle.sync.specs.SyncSearch.{numberOf};
+ghost use Rattle.kusikhut.specs.Told.{shown};
 ghost use Rattle.kusikhut.specs.Values.{searchValues};
+ghost use Rattle.kusikhut.specs.Calls.{toldSearch};
 use sync::Sync;
 
 fn number(a: Sync) -> u8
@@ -35,8 +36,7 @@ pub extern "C" fn kusikhut_search(
     allowance: usize,
     results: &mut [u64; 2],
 ) -> u8
-    ensures { λ r. ⌜ _≡_ {A = Told} (record { number = r; results = now (results .exit); memory = [] })
-        (answered numberOf searchValues (searchOf (now (chips .entry)) start allowance)) ⌝ }
+    ensures { λ r. ⌜ shown r (now (results .exit)) [] ≡ toldSearch (now (chips .entry)) start allowance ⌝ }
 {
     let a = sync::search(chips, start, allowance);
     *results = values(a);

@@ -1,4 +1,7 @@
 use borrow.Author.Needs.{needs}
+use Rattle.line.specs.Decoding.{numberOf}
+use Rattle.kusikhut.specs.Values.{decodeValues}
+use Rattle.kusikhut.proofs.ToldLaws.{tells}
 use Rattle.kusikhut.proofs.codes.decode.Statement.{statement}
 use Rattle.kusikhut.proofs.codes.decode.Tie as tie
 
@@ -15,7 +18,8 @@ same-length : tie.Need-same-length
 same-length c = search needs
 
 returns : tie.Need-returns
-returns c = cc
+returns c =
+    tells numberOf decodeValues (c .decode-number .ensures) (c .before .decode-values .ensures) (c .before .before .before .before .decode .ensures)
 
 pub decode-spec : {M : Type 1} → statement M
 decode-spec =

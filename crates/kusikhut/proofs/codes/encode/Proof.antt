@@ -1,4 +1,7 @@
 use borrow.Author.Needs.{needs}
+use Rattle.line.specs.Encoding.{numberOf}
+use Rattle.kusikhut.specs.Values.{encodeValues}
+use Rattle.kusikhut.proofs.ToldLaws.{tells}
 use Rattle.kusikhut.proofs.codes.encode.Statement.{statement}
 use Rattle.kusikhut.proofs.codes.encode.Tie as tie
 
@@ -15,7 +18,8 @@ same-length : tie.Need-same-length
 same-length c = search needs
 
 returns : tie.Need-returns
-returns c = cc
+returns c =
+    tells numberOf encodeValues (c .encode-number .ensures) (c .before .encode-values .ensures) (c .before .before .before .before .encode .ensures)
 
 pub encode-spec : {M : Type 1} → statement M
 encode-spec =

@@ -1,4 +1,7 @@
 use borrow.Author.Needs.{needs}
+use Rattle.frame.specs.Numbers.{numberOfChanged}
+use Rattle.kusikhut.specs.Values.{changeValues}
+use Rattle.kusikhut.proofs.ToldLaws.{tells}
 use Rattle.kusikhut.proofs.frames.change.Statement.{statement}
 use Rattle.kusikhut.proofs.frames.change.Tie as tie
 
@@ -15,7 +18,8 @@ same-length : tie.Need-same-length
 same-length c = search needs
 
 returns : tie.Need-returns
-returns c = cc
+returns c =
+    tells numberOfChanged changeValues (c .change-number .ensures) (c .before .change-values .ensures) (c .before .before .before .before .change .ensures)
 
 pub change-spec : {M : Type 1} → statement M
 change-spec =

@@ -1,4 +1,7 @@
 use borrow.Author.Needs.{needs}
+use Rattle.frame.specs.Numbers.{numberOfReading}
+use Rattle.kusikhut.specs.Values.{readValues}
+use Rattle.kusikhut.proofs.ToldLaws.{tells}
 use Rattle.kusikhut.proofs.frames.read.Statement.{statement}
 use Rattle.kusikhut.proofs.frames.read.Tie as tie
 
@@ -15,7 +18,8 @@ same-length : tie.Need-same-length
 same-length c = search needs
 
 returns : tie.Need-returns
-returns c = cc
+returns c =
+    tells numberOfReading readValues (c .read-number .ensures) (c .before .read-values .ensures) (c .before .before .before .before .read .ensures)
 
 pub read-spec : {M : Type 1} → statement M
 read-spec =

@@ -1,4 +1,7 @@
 use borrow.Author.Needs.{needs}
+use Rattle.header.specs.Writing.{numberOf}
+use Rattle.kusikhut.specs.Values.{headerWriteValues}
+use Rattle.kusikhut.proofs.ToldLaws.{tells}
 use Rattle.kusikhut.proofs.headers.write.Statement.{statement}
 use Rattle.kusikhut.proofs.headers.write.Tie as tie
 
@@ -15,7 +18,8 @@ same-length : tie.Need-same-length
 same-length c = search needs
 
 returns : tie.Need-returns
-returns c = cc
+returns c =
+    tells numberOf headerWriteValues (c .write-number .ensures) (c .before .write-values .ensures) (c .before .before .before .before .write .ensures)
 
 pub write-spec : {M : Type 1} → statement M
 write-spec =

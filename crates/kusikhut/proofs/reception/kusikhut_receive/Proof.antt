@@ -1,4 +1,7 @@
 use borrow.Author.Needs.{needs}
+use Rattle.radio.specs.Receiving.{numberOf}
+use Rattle.kusikhut.specs.Values.{receiveValues}
+use Rattle.kusikhut.proofs.ToldLaws.{tells}
 use Rattle.kusikhut.proofs.reception.kusikhut_receive.Statement.{statement}
 use Rattle.kusikhut.proofs.reception.kusikhut_receive.Tie as tie
 
@@ -15,7 +18,8 @@ same-length : tie.Need-same-length
 same-length c = search needs
 
 returns : tie.Need-returns
-returns c = cc
+returns c =
+    tells numberOf receiveValues (c .receive-number .ensures) (c .before .receive-values .ensures) (c .before .before .before .before .receive .ensures)
 
 pub kusikhut-receive-spec : {M : Type 1} → statement M
 kusikhut-receive-spec =

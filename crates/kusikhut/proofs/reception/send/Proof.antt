@@ -1,4 +1,7 @@
 use borrow.Author.Needs.{needs}
+use Rattle.radio.specs.Sending.{numberOf}
+use Rattle.kusikhut.specs.Values.{sendValues}
+use Rattle.kusikhut.proofs.ToldLaws.{tells}
 use Rattle.kusikhut.proofs.reception.send.Statement.{statement}
 use Rattle.kusikhut.proofs.reception.send.Tie as tie
 
@@ -15,7 +18,8 @@ same-length : tie.Need-same-length
 same-length c = search needs
 
 returns : tie.Need-returns
-returns c = cc
+returns c =
+    tells numberOf sendValues (c .send-number .ensures) (c .before .send-values .ensures) (c .before .before .before .before .send .ensures)
 
 pub send-spec : {M : Type 1} → statement M
 send-spec =
