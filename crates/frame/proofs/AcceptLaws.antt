@@ -15,7 +15,7 @@ use lib.ListN.{length, take, drop, getD, length-append, length-take, take-append
 use Rattle.ground.proofs.CaseLaws.{clash}
 use Rattle.spans.specs.declared.Checks.{Checks}
 use Rattle.spans.specs.declared.Checks.the-variants.{Right, Wrong}
-use Rattle.spans.specs.Spans.{framed, payload, firstWrong}
+use Rattle.spans.specs.Spans.{framed, payload, firstWrong, sizeOf}
 use Rattle.spans.proofs.SpanLaws.{firstWrong-framed, framed-payload}
 use Rattle.spans.proofs.TurnLaws.{payload-head}
 use Rattle.frame.specs.declared.Format.{Format}
@@ -154,6 +154,13 @@ accepted-fits f s z n h =
     ap (frameSize f) (both .0) in
     let size : z ≡ frameSize f n = both .1 .size ∙ ap (frameSize f) (both .0) in
     (size, omega (arith, size, whole, length-take z s))
+
+pub accepted-room :
+    (f : Format) (s : List ℕ) (z n : ℕ) → judgeOf f s ≡ Judged.Accepted z n → sizeOf (spansOf f n) ≤ length s
+unfolding frameSize
+accepted-room f s z n h =
+    let fits = accepted-fits f s z n h in
+    rw (fits .0) at (fits .1)
 
 pub frame-unique :
     (f : Format) (s : List ℕ) (z y : ℕ) (c d : List ℕ) → FrameAt f s z c → FrameAt f s y d → (z ≡ y) × (c ≡ d)

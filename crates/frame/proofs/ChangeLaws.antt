@@ -28,7 +28,7 @@ use Rattle.frame.specs.Judging.{judgeOf}
 use Rattle.frame.specs.Changes.{setIn, changingOf, placeOf, checkPlaceOf}
 use Rattle.frame.proofs.FormatLaws.{first-near, later-near}
 use Rattle.frame.proofs.FrameLaws.{total-spansOf, length-frameOf}
-use Rattle.frame.proofs.AcceptLaws.{accepts, accepted, accepted-fits, accepted-right, accepted-payload, frameOf-length, frame-split, content-there}
+use Rattle.frame.proofs.AcceptLaws.{accepts, accepted, accepted-fits, accepted-room, accepted-right, accepted-payload, frameOf-length, frame-split, content-there}
 
 size-is : (f : Format) (n : ℕ) → frameSize f n ≡ sizeOf (spansOf f n)
 unfolding frameSize
@@ -62,7 +62,7 @@ module _ (f : Format) (s : List ℕ) (k b : ℕ) where
         let store : set (payload (spansOf f n) s) (k + 1) b ≡ formOf f .lengthByte n ∷ set (contentIn f n s) k b =
         rw (accepted-payload f s z n (sym e), add-one k) in
         let behind : drop (sizeOf (spansOf f n)) s ≡ drop z s = ap (λ (x : ℕ). drop x s) (sym (fits .0 ∙ size-is f n)) in
-        mended-framed 1 (spansOf f n) s (k + 1) b (omega (arith, fits .0, fits .1, size-is f n))
+        mended-framed 1 (spansOf f n) s (k + 1) b (accepted-room f s z n (sym e))
         (accepted-right f s z n (sym e)) (omega (arith, total-spansOf f n))
         (widest-spans 126 (formOf f .first) (formOf f .later) (n + 1) (first-near f) (later-near f))
         ∙ rw (store, behind, frameOf-length f (set (contentIn f n s) k b) n size)
@@ -75,10 +75,9 @@ module _ (f : Format) (s : List ℕ) (k b : ℕ) where
 
     pub change-touches : k < n → Touches s (changingOf f s k b .memory) (placeOf f n k) (checkPlaceOf f n k) b
     change-touches h =
-        let fits = accepted-fits f s z n (sym e) in
         let p = placed (spansOf f n) (k + 1) (omega (arith, total-spansOf f n)) in
         rw (change-mends h) (mended-touches s (placeOf f n k) (checkPlaceOf f n k) b (p .before)
-        (omega (arith, p .inside, fits .0, fits .1, size-is f n)))
+        (omega (arith, p .inside, accepted-room f s z n (sym e))))
 
 -- a change of a buffer that begins with a frame: answer and memory, accepted or refused for its place
 module _ (f : Format) (s : List ℕ) (z : ℕ) (c : List ℕ) (at : FrameAt f s z c) (k b : ℕ) where

@@ -1,16 +1,13 @@
 -- `frame::change` meets its contract: a refusal of the judgement is passed on and writes nothing; where the place is in
 -- the content, mending the byte and its check in place is writing the changed content afresh. Assumes nothing.
 use mathlib.Core.Path.{_≡_, sym, _∙_}
-use Prim.Native.Nat.{_≤_}
 use native.Mathlib.Omega.{arith}
 use borrow.Author.Needs.{needs}
-use lib.ListN.{length}
 use Rattle.frame.specs.declared.Judged.{Judged}
-use Rattle.frame.specs.Formats.{frameSize}
 use Rattle.frame.specs.Judging.{judgeOf}
 use Rattle.frame.specs.Changes.{setIn}
 use Rattle.frame.proofs.FormatLaws.{first-wide, first-near, later-some, later-near, longest-byte}
-use Rattle.frame.proofs.AcceptLaws.{accepted, accepted-fits}
+use Rattle.frame.proofs.AcceptLaws.{accepted, accepted-room}
 use Rattle.frame.proofs.ChangeLaws.{changing-by, changing-bad-place, change-mends}
 use Rattle.frame.proofs.change.Statement.{statement}
 use Rattle.frame.proofs.change.Tie as tie
@@ -64,18 +61,16 @@ add-set-byte-2 : tie.Need-add-set-byte-2
 add-set-byte-2 c = search needs
 
 set-byte-requires : tie.Need-set-byte-requires
-unfolding frameSize
 set-byte-requires c κs =
     let a = c .before .before .before .before .before .before .before .before .before .before .args in
-    let p = accepted-fits (a .f) (a .s .now) (c .before .before .before .before .before .size .given .0 .0)
-    (c .before .before .before .before .before .size .given .0 .1 .0)
-    (sym (judged (c .before .before .before .before .before))) in
-    let fits : frameSize (a .f) (c .before .before .before .before .before .size .given .0 .1 .0) ≤ length
-    (a .s .now) = omega (arith, p .0, p .1) in (
-      (omega (arith, c .before .first .ensures, first-wide (a .f)), omega (arith, c .before .first .ensures, first-near (a .f))),
+    let got = c .before .before .before .before .before .size .given in
+    let fits = accepted-room (a .f) (a .s .now) (got .0 .0) (got .0 .1 .0) (sym (judged (c .before .before .before .before .before))) in
+    let first = c .before .first .ensures in
+    let later = c .later .ensures in (
+      (omega (arith, first-wide (a .f)), omega (arith, first-near (a .f))),
       (
-        (omega (arith, c .later .ensures, later-some (a .f)), omega (arith, c .later .ensures, later-near (a .f))),
-        (omega (arith, c .before .before .before .if1 .left), rw (c .before .first .ensures, c .later .ensures) fits),
+        (omega (arith, later-some (a .f)), omega (arith, later-near (a .f))),
+        (omega (arith, c .before .before .before .if1 .left), rw (first, later) fits),
       ),
     )
 
@@ -84,21 +79,28 @@ same-length-2 c = search needs
 
 returns-2 : tie.Need-returns-2
 unfolding setIn
-returns-2 c = changing-by (c .before .before .before .before .before .args .f) (c .before .before .before .before .before .args .s .now) (c .before .before .before .before .before .args .place) (c .before .before .before .before .before .args .byte) Judged.Short (sym (c .enum-told .given .1) ∙ c .before .before .judge .ensures)
+returns-2 c =
+    let a = c .before .before .before .before .before .args in
+    changing-by (a .f) (a .s .now) (a .place) (a .byte) Judged.Short (sym (c .enum-told .given .1) ∙ c .before .before .judge .ensures)
 
 same-length-3 : tie.Need-same-length-3
 same-length-3 c = search needs
 
 returns-3 : tie.Need-returns-3
 unfolding setIn
-returns-3 c = changing-by (c .before .before .before .before .before .args .f) (c .before .before .before .before .before .args .s .now) (c .before .before .before .before .before .args .place) (c .before .before .before .before .before .args .byte) Judged.BadLength (sym (c .enum-told2 .given .1) ∙ c .before .before .judge .ensures)
+returns-3 c =
+    let a = c .before .before .before .before .before .args in
+    changing-by (a .f) (a .s .now) (a .place) (a .byte) Judged.BadLength (sym (c .enum-told2 .given .1) ∙ c .before .before .judge .ensures)
 
 same-length-4 : tie.Need-same-length-4
 same-length-4 c = search needs
 
 returns-4 : tie.Need-returns-4
 unfolding setIn
-returns-4 c = changing-by (c .before .before .before .before .before .before .args .f) (c .before .before .before .before .before .before .args .s .now) (c .before .before .before .before .before .before .args .place) (c .before .before .before .before .before .before .args .byte) (Judged.WrongCheck (c .before .block .given .0 .0)) (sym (c .before .block .given .1) ∙ c .before .before .before .judge .ensures)
+returns-4 c =
+    let a = c .before .before .before .before .before .before .args in
+    changing-by (a .f) (a .s .now) (a .place) (a .byte) (Judged.WrongCheck (c .before .block .given .0 .0))
+    (sym (c .before .block .given .1) ∙ c .before .before .before .judge .ensures)
 
 same-length-5 : tie.Need-same-length-5
 same-length-5 c = search needs

@@ -1,17 +1,14 @@
 -- `frame::read` meets its contract: a refusal of the judgement is passed on and writes nothing; an acceptance with room
 -- hands the content over. Assumes nothing.
 use mathlib.Core.Path.{_≡_, sym, _∙_}
-use Prim.Native.Nat.{_≤_}
 use native.Mathlib.Omega.{arith}
 use borrow.Author.Needs.{needs}
-use lib.ListN.{length}
 use Rattle.frame.specs.declared.Judged.{Judged}
-use Rattle.frame.specs.Formats.{frameSize}
 use Rattle.frame.specs.Frames.{contentIn}
 use Rattle.frame.specs.Judging.{judgeOf}
 use Rattle.frame.specs.Reads.{takenOut}
 use Rattle.frame.proofs.FormatLaws.{first-wide, later-some}
-use Rattle.frame.proofs.AcceptLaws.{accepted-fits}
+use Rattle.frame.proofs.AcceptLaws.{accepted-room}
 use Rattle.frame.proofs.ReadLaws.{reading-by, reading-no-room, reading-accepted}
 use Rattle.frame.proofs.read.Statement.{statement}
 use Rattle.frame.proofs.read.Tie as tie
@@ -51,35 +48,35 @@ later-requires : tie.Need-later-requires
 later-requires c κs = search needs
 
 take-out-requires : tie.Need-take-out-requires
-unfolding frameSize
 take-out-requires c κs =
     let a = c .before .before .before .before .before .before .before .before .before .before .args in
-    let p = accepted-fits (a .f) (a .s .now) (c .before .before .before .before .before .size .given .0 .0)
-    (c .before .before .before .before .before .size .given .0 .1 .0)
-    (sym (judged (c .before .before .before .before .before))) in
-    let fits : frameSize (a .f) (c .before .before .before .before .before .size .given .0 .1 .0) ≤ length
-    (a .s .now) = omega (arith, p .0, p .1) in (
+    let got = c .before .before .before .before .before .size .given in
+    let fits = accepted-room (a .f) (a .s .now) (got .0 .0) (got .0 .1 .0) (sym (judged (c .before .before .before .before .before))) in (
       rw (c .before .before .first .ensures) (first-wide (a .f)),
       (
         rw (c .before .later .ensures) (later-some (a .f)),
-        (
-          omega (arith, c .before .before .before .if1 .left),
-          rw (c .before .before .first .ensures, c .before .later .ensures) fits,
-        ),
+        (omega (arith, c .before .before .before .if1 .left), rw (c .before .before .first .ensures, c .before .later .ensures) fits),
       ),
     )
 
 returns-2 : tie.Need-returns-2
 unfolding takenOut
-returns-2 c = reading-by (c .before .before .before .before .before .args .f) (c .before .before .before .before .before .args .s .now) (c .before .before .before .before .before .args .out .now) Judged.Short (sym (c .enum-told .given .1) ∙ c .before .before .judge .ensures)
+returns-2 c =
+    let a = c .before .before .before .before .before .args in
+    reading-by (a .f) (a .s .now) (a .out .now) Judged.Short (sym (c .enum-told .given .1) ∙ c .before .before .judge .ensures)
 
 returns-3 : tie.Need-returns-3
 unfolding takenOut
-returns-3 c = reading-by (c .before .before .before .before .before .args .f) (c .before .before .before .before .before .args .s .now) (c .before .before .before .before .before .args .out .now) Judged.BadLength (sym (c .enum-told2 .given .1) ∙ c .before .before .judge .ensures)
+returns-3 c =
+    let a = c .before .before .before .before .before .args in
+    reading-by (a .f) (a .s .now) (a .out .now) Judged.BadLength (sym (c .enum-told2 .given .1) ∙ c .before .before .judge .ensures)
 
 returns-4 : tie.Need-returns-4
 unfolding takenOut
-returns-4 c = reading-by (c .before .before .before .before .before .before .args .f) (c .before .before .before .before .before .before .args .s .now) (c .before .before .before .before .before .before .args .out .now) (Judged.WrongCheck (c .before .block .given .0 .0)) (sym (c .before .block .given .1) ∙ c .before .before .before .judge .ensures)
+returns-4 c =
+    let a = c .before .before .before .before .before .before .args in
+    reading-by (a .f) (a .s .now) (a .out .now) (Judged.WrongCheck (c .before .block .given .0 .0))
+    (sym (c .before .block .given .1) ∙ c .before .before .before .judge .ensures)
 
 same-length : tie.Need-same-length
 same-length c = search needs
