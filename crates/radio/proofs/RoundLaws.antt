@@ -60,12 +60,13 @@ module _ (k : Kind) (c : List ℕ) where
     sending-accepts low high room =
         rw (within-true (formOf (formatOf k) .shortest) (formOf (formatOf k) .longest) (length c) low high, length-frameOf (formatOf k) c, le-ltb (length d) (airSize k (frameSize (formatOf k) (length c))) room)
 
-    pub record Sending : Type 0 where
+    pub record Sending (y : ℕ) : Type 0 where
+      pub size : y ≡ airSize k (frameSize (formatOf k) (length c))
       pub low : formOf (formatOf k) .shortest ≤ length c
       pub high : length c ≤ formOf (formatOf k) .longest
       pub room : airSize k (frameSize (formatOf k) (length c)) ≤ length d
 
-    pub sending-accepted : (y : ℕ) → sendingOf k c d .answer ≡ Sent.Accepted y → Sending
+    pub sending-accepted : (y : ℕ) → sendingOf k c d .answer ≡ Sent.Accepted y → Sending y
     unfolding sendingOf putting
     sending-accepted y e =
         by-tests (within (formOf (formatOf k) .shortest) (formOf (formatOf k) .longest) (length c)) refl (ltb (length d) (airSize k (length (frameOf (formatOf k) c)))) refl e
@@ -76,10 +77,11 @@ module _ (k : Kind) (c : List ℕ) where
             (cond r (record { answer = Sent.NoRoom; memory = d })
             (record { answer = Sent.Accepted (airSize k (length (frameOf (formatOf k) c))); memory = airOf k (frameOf (formatOf k) c) ++ drop (airSize k (length (frameOf (formatOf k) c))) d }))
             (record { answer = Sent.BadContent; memory = d }) .answer ≡ Sent.Accepted y
-            → Sending
+            → Sending y
         by-tests true f false g h =
             let both = true-within (formOf (formatOf k) .shortest) (formOf (formatOf k) .longest) (length c) f in
-            record { low = both .0; high = both .1; room = rw (length-frameOf (formatOf k) c) at (ltb-false (length d) (airSize k (length (frameOf (formatOf k) c))) g) }
+            let same : airSize k (length (frameOf (formatOf k) c)) ≡ y = cc in
+            record { size = sym same ∙ ap (airSize k) (length-frameOf (formatOf k) c); low = both .0; high = both .1; room = rw (length-frameOf (formatOf k) c) at (ltb-false (length d) (airSize k (length (frameOf (formatOf k) c))) g) }
         by-tests true f true g h = absurd (no h)
           where
             no : Sent.NoRoom ≡ Sent.Accepted y → ⊥
@@ -141,7 +143,7 @@ module _ (k : Kind) (c d : List ℕ) (bytes : Bytes c) (room : length c ≤ leng
   pub sent-heard : (buf : List ℕ) (a y : ℕ) → length buf ≤ roomLimit → 0 < a → sendingOf k c buf .answer ≡ Sent.Accepted y
       → receivingOf k (sendingOf k c buf .memory) 0 a d ≡ heardOf k 0 (firstTry k) (frameSize (formatOf k) (length c)) c d
   sent-heard buf a y small some e =
-      let p : Sending k c buf = sending-accepted k c buf y e in
+      let p : Sending k c buf y = sending-accepted k c buf y e in
       let rest = drop (airSize k (frameSize (formatOf k) (length c))) buf in
       let memory : sendingOf k c buf .memory ≡ sentOf k c ++ rest = ap (λ (o : Outcome Sent). o .memory) (sending-accepts k c buf (p .low) (p .high) (p .room)) in
       let sent : SentAt k (sentOf k c ++ rest) 0 c = sent-among k c [] rest bytes (p .low) (p .high) in

@@ -1,0 +1,21 @@
+-- The part is within the bytes.
+use native.Mathlib.Omega.{arith}
+use lib.ListN.{length-take}
+use borrow.Author.Needs.{needs}
+use Rattle.vectors.proofs.first.Statement.{statement}
+use Rattle.vectors.proofs.first.Tie as tie
+
+-- src/main.rt:83:27
+slice-aggregate-result : tie.Need-slice-aggregate-result
+slice-aggregate-result c = simp length-take (omega arith)
+
+-- src/main.rt:82:1
+returns : tie.Need-returns
+returns c = search needs
+
+-- src/main.rt:82:1
+returns-2 : tie.Need-returns-2
+returns-2 c = search needs
+
+pub first-spec : {M : Type 1} → statement M
+first-spec = tie.close (tie.spec slice-aggregate-result returns returns-2)
