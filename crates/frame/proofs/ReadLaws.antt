@@ -47,12 +47,13 @@ read-accepts f s d z c at room =
     ∙ ap (λ (m : List ℕ). record { answer = Reading.Accepted z (length c); memory = m ++ drop (length c) d })
     (content-there f s z c at)
 
--- what an accepted reading hands over
-pub record Handed (f : Format) (s d : List ℕ) (z n : ℕ) (c : List ℕ) : Type 0 where
+-- What an accepted reading hands over, said without the reader: s begins with the frame of c, d has room for its n bytes,
+-- and m is c with what d held behind it.
+pub record Handed (f : Format) (s d : List ℕ) (z n : ℕ) (m c : List ℕ) : Type 0 where
   pub sized : length c ≡ n
   pub frame : FrameAt f s z c
   pub room : n ≤ length d
-  pub memory : readingOf f s d .memory ≡ c ++ drop n d
+  pub memory : m ≡ c ++ drop n d
 
 by-room :
     (f : Format) (s d : List ℕ) (z n y m : ℕ) (t : Bool)
@@ -65,7 +66,7 @@ by-room f s d z n y m false h = (refl, (cc, cc))
 
 handed :
     (f : Format) (s d : List ℕ) (z n : ℕ) (j : Judged) → judgeOf f s ≡ j
-    → takenOut f s d j .answer ≡ Reading.Accepted z n → Handed f s d z n (contentIn f n s)
+    → takenOut f s d j .answer ≡ Reading.Accepted z n → Handed f s d z n (readingOf f s d .memory) (contentIn f n s)
 unfolding takenOut
 handed f s d z n (Judged.Accepted y m) e h =
     let p = by-room f s d z n y m (ltb (length d) m) h in
@@ -84,16 +85,20 @@ handed f s d z n (Judged.WrongCheck b) e h = absurd (clash (cc))
 
 pub read-accepted :
     (f : Format) (s d : List ℕ) (z n : ℕ) → readingOf f s d .answer ≡ Reading.Accepted z n
-    → Handed f s d z n (contentIn f n s)
+    → Handed f s d z n (readingOf f s d .memory) (contentIn f n s)
 unfolding readingOf
 read-accepted f s d z n h = handed f s d z n (judgeOf f s) refl h
 
--- both directions in one: what is answered and what then stands in the lent memory
+-- both directions in one: accepted with the memory m exactly when there is such a content
 pub read-exactly :
-    (f : Format) (s d : List ℕ) (z n : ℕ)
-    → (readingOf f s d .answer ≡ Reading.Accepted z n) ↔ ((c : List ℕ) × Handed f s d z n c)
-read-exactly f s d z n = (
-  λ h. (contentIn f n s, read-accepted f s d z n h),
-  λ w. ap (λ (o : Outcome Reading). o .answer) (read-accepts f s d z (w .0) (w .1 .frame) (rw (w .1 .sized) (w .1 .room)))
-      ∙ ap (Reading.Accepted z) (w .1 .sized),
+    (f : Format) (s d m : List ℕ) (z n : ℕ)
+    → (readingOf f s d ≡ record { answer = Reading.Accepted z n; memory = m }) ↔ ((c : List ℕ) × Handed f s d z n m c)
+read-exactly f s d m z n = (
+  λ e.
+      let got = read-accepted f s d z n (ap (λ (o : Outcome Reading). o .answer) e) in
+      (contentIn f n s, record { sized = got .sized; frame = got .frame; room = got .room; memory = sym (ap (λ (o : Outcome Reading). o .memory) e) ∙ got .memory }),
+  λ w.
+      read-accepts f s d z (w .0) (w .1 .frame) (rw (w .1 .sized) (w .1 .room))
+      ∙ ap (λ (k : ℕ). record { answer = Reading.Accepted z k; memory = w .0 ++ drop k d }) (w .1 .sized)
+      ∙ ap (λ (x : List ℕ). record { answer = Reading.Accepted z n; memory = x }) (sym (w .1 .memory)),
 )

@@ -112,7 +112,7 @@ module _ (k : Kind) (place t : ℕ) (s d : List ℕ) where
     read-out =
         let f = formatOf k in
         let told = told-accepted j p u z n (readingOf f got d .answer) e in
-        let handed : Handed f got d z n content = read-accepted f got d z n (told .0) in
+        let handed : Handed f got d z n (readingOf f got d .memory) content = read-accepted f got d z n (told .0) in
         let frame : FrameAt f got z content = handed .frame in
         let cut : take z got ≡ frameOf f content = frame .bytes in
         let long : length got ≡ y = length-decoding (lineOf k) (lawful (codeFor k)) s at y in

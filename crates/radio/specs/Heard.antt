@@ -1,12 +1,14 @@
 -- What receiving a frame in chips means, said without the receiver's steps (document 01, "Sync search", "No room for a
 -- hollow program"), once over the kind.
---     receivingOf k s start a d    the call for kind k: T and C are searched from `start`, Manchester stands at it
+--     searched k                   whether frames of kind k are searched, as T and C are; Manchester stands where it is named
+--     receivingOf k s start a d    the call for kind k
 --     Reached k s start a place t  the call looks at `place`, as the t-th position that it tries: for T and C the sync
 --                                  word stands there first, within the allowance a; Manchester begins at the start
 --     Heard s start a d k place t z n c    a frame of kind k stands where the call looks: its content c, n bytes, has a
 --                                  frame of z bytes, and sending c as kind k writes just these chips; d has room for c;
 --                                  s is not too long (house)
 --     heardOf k place t z c d      then the answer names kind, place, positions, frame size and length, and d begins with c
+use mathlib.Core.Bool.{Bool, true, false, cond}
 use mathlib.Core.List.{List, _++_}
 use mathlib.Core.Path.{_≡_}
 use Prim.Native.Nat.{ℕ, _≤_}
@@ -23,11 +25,14 @@ use Rattle.radio.specs.Kinds.{formatOf}
 use Rattle.radio.specs.Receiving.{receptionOf, manchesterOf}
 use Rattle.radio.specs.Sending.{SentAt}
 
+abbrev pub searched : Kind → Bool
+searched TWithA = true
+searched CWithA = true
+searched CWithB = true
+searched ManchesterWithA = false
+
 abbrev pub receivingOf : Kind → List ℕ → ℕ → ℕ → List ℕ → Outcome Reception
-receivingOf TWithA s start a d = receptionOf s start a d
-receivingOf CWithA s start a d = receptionOf s start a d
-receivingOf CWithB s start a d = receptionOf s start a d
-receivingOf ManchesterWithA s start a d = manchesterOf s start d
+receivingOf k s start a d = cond (searched k) (receptionOf s start a d) (manchesterOf s start d)
 
 abbrev pub Reached : Kind → List ℕ → ℕ → ℕ → ℕ → ℕ → Type 0
 Reached TWithA s start a place t = FirstAt syncWord syncWidth s start a place t
