@@ -101,7 +101,7 @@ static void prepare(void) {
     for (size_t i = 0; i < sizeof noise; i++) noise[i] = next_byte();
     for (size_t i = 0; i < sizeof span; i++) span[i] = next_byte();
     for (size_t i = 0; i < sizeof content; i++) content[i] = next_byte();
-    /* No sync word in the noise: its first byte never stands in it, at whatever chip. */
+    /* Wherever the sync word stands in the noise, a byte of it is turned, until it stands nowhere. */
     for (size_t p, t; twin_search(noise, sizeof noise, 0, 8192, &p, &t) == 0;) noise[p / 8] ^= 0xFF;
     if (kusikhut_write_a(content, sizeof content, frame, sizeof frame, r) != 0) exit(1);
     if (kusikhut_send_t_a(content, sizeof content, chips, sizeof chips, r) != 0) exit(1);

@@ -1,6 +1,6 @@
 -- The check of a span in which one byte was changed (document 01, "Changing a byte"), found without the span.
 --     shareOf x k              what a byte x with k bytes behind it adds to the register: that of x and k zero bytes
---     farthest                 at most so many bytes stand behind the changed one (house)
+--     farthest                 at most so many bytes stand behind the changed one (01: distance 0 to 125)
 --     updating c old new k     the answer for the old check c, the old and the new byte, and k bytes behind them
 --     Mends c old new k r      01's own words: whatever the span, if it has the check c and the byte `old` with k bytes
 --                              behind it, then r is the check of the same span with the byte `new` there

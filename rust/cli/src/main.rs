@@ -7,13 +7,20 @@ mod lines;
 mod reply;
 
 use std::io::{self, Write};
+use std::process::ExitCode;
 
-fn main() {
+fn main() -> ExitCode {
     let given: Vec<String> = std::env::args_os().skip(1).map(|a| a.to_string_lossy().into_owned()).collect();
     let mut out = io::stdout().lock();
     let wrote = if given.is_empty() { converse(&mut out) } else { answer(&given.join(" "), &mut out) };
-    // A reader that went away (as `head` does) is no error of ours, and there is nobody left to tell.
-    drop(wrote.and_then(|()| out.flush()));
+    match wrote.and_then(|()| out.flush()) {
+        // A reader that went away (as `head` does) is no error of ours.
+        Err(why) if why.kind() != io::ErrorKind::BrokenPipe => {
+            eprintln!("kusikhut: the answer could not be written: {why}");
+            ExitCode::FAILURE
+        }
+        _ => ExitCode::SUCCESS,
+    }
 }
 
 fn converse(out: &mut impl Write) -> io::Result<()> {
