@@ -5,9 +5,11 @@
 --     bit-and    a digit that both have
 --     bit-not    a digit that the other pattern, all ones, turns over
 --     bit-none   no digit from k on
+--     leading-none   nor any of the leading zeros of w digits
 use mathlib.Core.Path.{_≡_, ap, ap₂, sym, _∙_}
 use Prim.Native.Nat.{ℕ, suc, _+_, _*_, _-_, _/_, _%_, _^_, _<_, _≤_}
-use native.Mathlib.Nat.{pow-suc, zero-div}
+use native.Mathlib.Nat.{pow-suc, zero-div, div-eq-of-lt}
+use lib.Count.{leadingZeros, leading-length}
 use native.Mathlib.Omega.{arith}
 use lib.Bits.{bitAnd, bitXor, and-shr, and-mod, xor-shr, xor-mod}
 use lib.Pow.{shr-shr, shl-shr, field, mod-mod-pow, ones-split, high, ones-lt, pow-pos}
@@ -49,3 +51,9 @@ bit-none x k n le e =
     let cut : k + (n - k) ≡ n = omega arith in
     ap (λ (m : ℕ). x / 2 ^ m % 2) (sym cut) ∙ sym (bit-shr x k (n - k)) ∙ ap (λ (y : ℕ). y / 2 ^ (n - k) % 2) e
     ∙ rw (zero-div (2 ^ (n - k)))
+
+pub leading-none : (x w : ℕ) → x < 2 ^ w → x / 2 ^ (w - leadingZeros w x) ≡ 0
+leading-none x w h =
+    let shape = leading-length w x h in
+    let digits : w - leadingZeros w x ≡ shape .0 = omega (arith, shape .1) in
+    rw digits (div-eq-of-lt (shape .2))

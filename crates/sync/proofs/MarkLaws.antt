@@ -1,12 +1,15 @@
 -- Looking for the sync word at all places of a window at once: its eight pairs of chips, 01 01 01 00 00 11 11 01.
 --     zeroOne x, zeroZero x, oneOne x    digit n is 1 where digits n and n - 1 of x are 0 1, 0 0, 1 1
 --     marks x                            digit 63 - j is 1 where all eight pairs stand, from place j on
---     unmarked                           no mark at the 49 places: the word stands at none of them
+--     unmarked-run                       before the first mark from place r on the word stands nowhere
 use mathlib.Core.Path.{_≡_, refl, ap, sym, _∙_}
 use Prim.Native.Nat.{ℕ, _+_, _*_, _-_, _/_, _%_, _^_, _<_, _≤_}
 use native.Mathlib.Omega.{arith}
+use native.Mathlib.Nat.{mod-lt}
 use lib.Bits.{bitAnd, bitXor}
-use Rattle.ground.proofs.BitLaws.{bit-mod, bit-shr, bit-shl, bit-and, bit-not, bit-none}
+use lib.Count.{leadingZeros, leading-le}
+use lib.Pow.{pow-pos}
+use Rattle.ground.proofs.BitLaws.{bit-mod, bit-shr, bit-shl, bit-and, bit-not, bit-none, leading-none}
 
 abbrev pub turned : ℕ → ℕ
 turned x = bitXor x (2 ^ 64 - 1)
@@ -79,9 +82,14 @@ module _ (x q : ℕ) (h : q ≤ 48) (word : x / 2 ^ q % 65536 ≡ 0x543D) where
       (raised (oneOne x) 12 (omega arith) (oo 2 (omega arith) refl refl)))
       (raised (zeroOne x) 14 (omega arith) (zo 0 (omega arith) refl refl))
 
-pub unmarked : (x j : ℕ) → marks x / 32768 ≡ 0 → j ≤ 48 → x / 2 ^ (48 - j) % 65536 ≡ 0x543D → ⊥
-unmarked x j none h e =
-    let one : marks x / 2 ^ (48 - j + 15) % 2 ≡ 1 = marked x (48 - j) (omega arith) e in
-    let zero : marks x / 2 ^ (48 - j + 15) % 2 ≡ 0 = bit-none (marks x) 15 (48 - j + 15) (omega arith) none in
-    let z : _≡_ {A = ℕ} 0 1 = sym zero ∙ one in
+-- y is the marks from place r on; before its first one the word does not stand
+pub unmarked-run : (x r i : ℕ) → i < leadingZeros 64 (up (marks x) r) → r + i ≤ 48 → x / 2 ^ (48 - (r + i)) % 65536 ≡ 0x543D → ⊥
+unmarked-run x r i h inside e =
+    let y = up (marks x) r in
+    let place : 63 - i - r ≡ 48 - (r + i) + 15 = omega arith in
+    let one : y / 2 ^ (63 - i) % 2 ≡ 1 =
+    bit-shl (marks x) 64 r (63 - i) (omega arith) (omega arith) ∙ ap (λ (n : ℕ). marks x / 2 ^ n % 2) place ∙ marked x (48 - (r + i)) (omega arith) e in
+    let none : y / 2 ^ (63 - i) % 2 ≡ 0 =
+    bit-none y (64 - leadingZeros 64 y) (63 - i) (omega (arith, leading-le 64 y)) (leading-none y 64 (mod-lt (marks x * 2 ^ r) (pow-pos 64))) in
+    let z : _≡_ {A = ℕ} 0 1 = sym none ∙ one in
     omega arith

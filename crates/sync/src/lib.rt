@@ -1,6 +1,5 @@
 // The search for the sync word that modes T and C share, and the tail that tells them apart (document 01, "Sync search";
 // EN 13757-4:2019, 9.4.2).
-ghost use mathlib.Core.Bool.{true};
 ghost use mathlib.Core.Path.{_≡_};
 ghost use Prim.Native.Nat.{ℕ, _+_, _*_, _-_, _/_, _%_, _^_, _≤_, _<_, min};
 ghost use lib.Dec.{eqb};
@@ -99,10 +98,11 @@ fn within(x: usize, r: usize) -> usize
     (x >> below) % 65536
 }
 
-// Where this says so, the sync word stands at none of the 49 places of the 64 chips x: its eight pairs of chips,
+// At so many places from place r of the 64 chips x on the sync word does not stand: its eight pairs of chips,
 // 01 01 01 00 00 11 11 01, are looked for at all places at once, whatever the chips are.
-fn clear(x: usize) -> bool
-    ensures { λ r. ⌜ (r ≡ true → (j : ℕ) → j ≤ 48 → x / 2 ^ (48 - j) % 65536 ≡ syncWord → ⊥) ⌝ }
+fn unmarked(x: usize, r: usize) -> usize
+    requires { ⌜ r ≤ 7 ⌝ }
+    ensures { λ p. ⌜ ((i : ℕ) → i < p → r + i ≤ 48 → x / 2 ^ (48 - (r + i)) % 65536 ≡ syncWord → ⊥) ⌝ }
 {
     let turned = x ^ 0xFFFF_FFFF_FFFF_FFFF;
     let next = x << 1;
@@ -117,18 +117,15 @@ fn clear(x: usize) -> bool
         & (one_one << 10)
         & (one_one << 12)
         & (zero_one << 14);
-    marks >> 15 == 0
+    usize::leading_zeros(marks << (r as u32)) as usize
 }
 
 // How many of the n places from r on are tried before the word stands in the 64 chips x.
 fn first_in(x: usize, r: usize, n: usize) -> usize
-    requires { ⌜ r + n ≤ 49 ⌝ }
+    requires { ⌜ (r ≤ 7) × (r + n ≤ 49) ⌝ }
     ensures { λ p. ⌜ p ≡ passed (λ j. eqb (x / 2 ^ (48 - j) % 65536) syncWord) r n ⌝ }
 {
-    if clear(x) {
-        return n;
-    }
-    let mut j: usize = 0;
+    let mut j = smaller(unmarked(x, r), n);
     while j < n {
         if within(x, r + j) == 0x543D {
             return j;

@@ -21,19 +21,21 @@ Inv-loop x r n j₀ j = (j ≤ n) × (j ≤ passed (wordIn x) r j)
 abbrev μ-loop : tie.MeasureT-loop
 μ-loop x r n j₀ j = n - j
 
-clear-requires : tie.Need-clear-requires Inv-loop μ-loop
-clear-requires c κs = search needs
+unmarked-requires : tie.Need-unmarked-requires Inv-loop μ-loop
+unmarked-requires c κs = omega arith
 
-returns : tie.Need-returns Inv-loop μ-loop
-returns c =
-    let x = c .before .before .args .x in
-    let r = c .before .before .args .r in
-    sym
-    (passed-none (wordIn x) r (c .before .before .args .n)
-    (λ j l. ne-eqb (x / 2 ^ (48 - (r + j)) % 65536) syncWord (c .before .clear .ensures (c .if1 .taken) (r + j) (omega arith))))
+smaller-requires : tie.Need-smaller-requires Inv-loop μ-loop
+smaller-requires c κs = search needs
 
 loop-holds : tie.Need-loop-holds Inv-loop μ-loop
-loop-holds c = omega arith
+loop-holds c =
+    let x = c .before .before .args .x in
+    let r = c .before .before .args .r in
+    let j = c .smaller .result in
+    let none : passed (wordIn x) r j ≡ j =
+    passed-none (wordIn x) r j
+    (λ i l. ne-eqb (x / 2 ^ (48 - (r + i)) % 65536) syncWord (c .before .unmarked .ensures i (omega arith) (omega arith))) in
+    omega arith
 
 add-within : tie.Need-add-within Inv-loop μ-loop
 add-within c = omega arith
@@ -41,12 +43,12 @@ add-within c = omega arith
 within-requires : tie.Need-within-requires Inv-loop μ-loop
 within-requires c κs = omega arith
 
-returns-2 : tie.Need-returns-2 Inv-loop μ-loop
-returns-2 c =
+returns : tie.Need-returns Inv-loop μ-loop
+returns c =
     let x = c .before .before .before .before .before .before .args .x in
     let r = c .before .before .before .before .before .before .args .r in
     let j = c .before .before .before .loop .j in
-    sym (passed-hit (wordIn x) r j (c .before .before .before .before .before .before .args .n) (c .before .before .before .loop .inv .1) (eq-eqb (x / 2 ^ (48 - (r + j)) % 65536) syncWord (sym (c .before .within .ensures) ∙ c .if2 .taken)) (omega arith))
+    sym (passed-hit (wordIn x) r j (c .before .before .before .before .before .before .args .n) (c .before .before .before .loop .inv .1) (eq-eqb (x / 2 ^ (48 - (r + j)) % 65536) syncWord (sym (c .before .within .ensures) ∙ c .if1 .taken)) (omega arith))
 
 add-j : tie.Need-add-j Inv-loop μ-loop
 add-j c = omega arith
@@ -59,10 +61,10 @@ loop-again c =
     let x = c .before .before .before .before .before .before .args .x in
     let r = c .before .before .before .before .before .before .args .r in
     let j = c .before .before .before .loop .j in
-    (omega arith, passed-more (wordIn x) r j (c .before .before .before .loop .inv .1) (ne-eqb (x / 2 ^ (48 - (r + j)) % 65536) syncWord (λ e. c .if2 .left (c .before .within .ensures ∙ e))))
+    (omega arith, passed-more (wordIn x) r j (c .before .before .before .loop .inv .1) (ne-eqb (x / 2 ^ (48 - (r + j)) % 65536) syncWord (λ e. c .if1 .left (c .before .within .ensures ∙ e))))
 
-returns-3 : tie.Need-returns-3 Inv-loop μ-loop
-returns-3 c =
+returns-2 : tie.Need-returns-2 Inv-loop μ-loop
+returns-2 c =
     let x = c .before .before .before .before .args .x in
     let r = c .before .before .before .before .args .r in
     let n = c .before .before .before .before .args .n in
@@ -76,13 +78,13 @@ first-in-spec =
     (tie.spec
     Inv-loop
     μ-loop
-    clear-requires
-    returns
+    unmarked-requires
+    smaller-requires
     loop-holds
     add-within
     within-requires
-    returns-2
+    returns
     add-j
     loop-less
     loop-again
-    returns-3)
+    returns-2)
