@@ -8,7 +8,6 @@ use mathlib.Core.Bool.{Bool, true, false, cond}
 use mathlib.Core.List.{List, _++_}
 use mathlib.Core.Path.{_≡_, refl, ap, ap₂, sym, _∙_}
 use Prim.Native.Nat.{ℕ, _+_, _≤_}
-use native.Mathlib.Omega.{arith}
 use borrow.Author.Tests.{le-ltb}
 use lib.Dec.{ltb}
 use lib.ListN.{length, take, drop}
@@ -20,7 +19,8 @@ use Rattle.line.specs.declared.Code.{Code}
 use Rattle.sync.specs.declared.Kind.{Kind}
 use Rattle.sync.specs.Kinds.{leadOf}
 use Rattle.radio.specs.Kinds.{codeFor, lineOf}
-use Rattle.chips.proofs.PackingLaws.{length-packed}
+use Rattle.line.proofs.CodeLaws.{lawful}
+use Rattle.line.proofs.TripLaws.{length-decoding}
 use Rattle.line.specs.Decoding.{valueAt, goodRun, decoding, decoded}
 use Rattle.line.specs.declared.Decoded.{Decoded}
 use Rattle.radio.specs.declared.Reception.{Reception}
@@ -28,10 +28,6 @@ use Rattle.radio.specs.Receiving.{refused, coded, answerOf, toldBy}
 use Rattle.frame.specs.declared.Format.{Format}
 use Rattle.frame.specs.declared.Reading.{Reading}
 use Rattle.frame.specs.Reads.{readingOf}
-
-length-decoding : (κ : LineCode) (s : List ℕ) (at n : ℕ) → length (decoding κ s at n) ≡ n
-unfolding decoding
-length-decoding κ s at n = rw length-packed (omega arith)
 
 abbrev pub codedBy : Decoded → List ℕ → Outcome Reception → Outcome Reception
 codedBy Decoded.Accepted d next = next
@@ -100,7 +96,7 @@ module _ (kind : Kind) (s : List ℕ) (place n : ℕ) (code : Code) (lead : ℕ)
   pub decoded-there : r ≡ Decoded.Accepted → take n m ≡ decoding (lineOf kind) s (place + leadOf kind) n
   decoded-there e =
       ap (take n) (memory (lineOf kind) s (place + leadOf kind) n room (q .short) (q .inside) (q .room-there) (record { answer = r; memory = m }) at-kind e)
-      ∙ take-at (decoding (lineOf kind) s (place + leadOf kind) n) (drop n room) n (length-decoding (lineOf kind) s (place + leadOf kind) n)
+      ∙ take-at (decoding (lineOf kind) s (place + leadOf kind) n) (drop n room) n (length-decoding (lineOf kind) (lawful (codeFor kind)) s (place + leadOf kind) n)
 
 pub reading-told : (kind : Kind) (place t : ℕ) (a : Reception) (r : Reading) (m : List ℕ) (f g : Format) (p q d : List ℕ)
     → a ≡ answerOf kind place t r → _≡_ {A = Outcome Reading} (record { answer = r; memory = m }) (readingOf f p d) → f ≡ g → p ≡ q

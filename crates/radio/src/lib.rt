@@ -1,10 +1,8 @@
 // Frames in chips: receive and send (EN 13757-4:2019, 6.4, 7.4.2, 9.4; document 01, "Sync search", "Answer numbers").
 ghost use mathlib.Core.Path.{_≡_};
-ghost use mathlib.Core.Bool.{cond};
 ghost use mathlib.Core.List.{_++_, _∷_};
-ghost use Prim.Native.Nat.{_+_, _*_, _≤_};
+ghost use Prim.Native.Nat.{_+_, _≤_};
 ghost use lib.ListN.{length, take, drop};
-ghost use lib.Dec.{ltb};
 ghost use Rattle.ground.specs.Outcome.{Outcome};
 ghost use Rattle.chips.specs.Chips.{chipCount, roomLimit};
 ghost use Rattle.line.specs.Encoding.{encoded};

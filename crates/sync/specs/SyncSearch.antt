@@ -3,10 +3,13 @@
 --     positions w s start        how many places from `start` on have w chips: chips - w - start + 1, or 0 if negative
 --     passed f k m               how many of the m places from k on are tried before the first at which f holds
 --     reach a p                  how many places a search may try: the smaller of the allowance a and the positions p
+--     nowhere a p                the answer where the word was not found: were all p positions tried, or a of them?
+--     outcomeOf start a p i      the answer where i places were passed over
+--     inRange s start            may a search begin there? At most 1,024 bytes (house), and not behind the last chip
 --     searchFor v w s start a    the search's answer; `numberOf` gives its number in document 01
 --     syncWord, syncWidth        what modes T and C share: 543Dh, the 16 chips 0101010000111101
 --     searchOf s start a         the search for that word
--- Sums are of whole numbers: no start and no allowance is too large to be judged. (house) marks the limit of the buffer.
+-- Sums are of whole numbers: no start and no allowance is too large to be judged.
 use mathlib.Core.Bool.{Bool, false, cond}
 use mathlib.Core.List.{List}
 use Prim.Native.Nat.{ℕ, zero, suc, _+_, _-_, min}

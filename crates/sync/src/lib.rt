@@ -4,7 +4,7 @@ ghost use mathlib.Core.Path.{_≡_};
 ghost use Prim.Native.Nat.{ℕ, _+_, _*_, _-_, _/_, _%_, _^_, _≤_, _<_, min};
 ghost use lib.Dec.{eqb};
 ghost use lib.ListN.{length, getD};
-ghost use Rattle.chips.specs.Chips.{wordAt, chipCount, roomLimit};
+ghost use Rattle.chips.specs.Chips.{wordAt, roomLimit};
 ghost use Rattle.sync.specs.Tails.{tailOf, kindFor};
 ghost use Rattle.sync.specs.SyncSearch.{positions, passed, standsAt, searchOf, syncWord, syncWidth};
 

@@ -1,3 +1,4 @@
+-- Each answer is the definition at the case that was met.
 use mathlib.Core.Path.{sym, ap}
 use Rattle.radio.specs.Receiving.{answerOf}
 use borrow.Author.Needs.{needs}

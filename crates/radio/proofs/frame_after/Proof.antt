@@ -1,3 +1,4 @@
+-- Decoding the first byte is told by one law (CodedLaws) for all its answers; where it accepts, that byte is the length byte.
 use mathlib.Core.List.{List, [], _∷_}
 use mathlib.Core.Path.{_≡_, ap, ap₂, sym, _∙_}
 use Prim.Native.Nat.{ℕ, _+_}

@@ -1,3 +1,4 @@
+-- Each number is the definition at the case that was met.
 use mathlib.Core.Path.{sym, ap}
 use native.Mathlib.Omega.{arith}
 use Rattle.sync.specs.Kinds.{leadOf}

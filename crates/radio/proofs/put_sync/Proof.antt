@@ -1,3 +1,4 @@
+-- Each kind's bytes are those that its case wrote.
 use mathlib.Core.List.{_++_}
 use mathlib.Core.Path.{_≡_, ap, sym, _∙_}
 use native.Mathlib.Omega.{arith}

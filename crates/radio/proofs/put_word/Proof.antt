@@ -1,3 +1,4 @@
+-- Two stores from the first byte on: the two bytes, then what stays.
 use mathlib.Core.List.{[], _∷_}
 use Rattle.ground.proofs.StoresLaws.{sets-start}
 use borrow.Author.Needs.{needs}

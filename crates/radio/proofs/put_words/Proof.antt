@@ -1,3 +1,4 @@
+-- Four stores from the first byte on: the four bytes, then what stays.
 use mathlib.Core.List.{[], _∷_}
 use native.Mathlib.Omega.{arith}
 use lib.ListN.{length-set}

@@ -1,3 +1,4 @@
+-- Decoding is told by one law (CodedLaws) for all its answers; where it accepts, the bytes read are those decoded.
 use mathlib.Core.Path.{_≡_, _∙_}
 use Prim.Native.Nat.{_+_}
 use native.Mathlib.Omega.{arith}
