@@ -10,3 +10,4 @@ pub mod GoodRunLaws
 pub mod PouringLaws
 pub mod ReadingLaws
 pub mod TripLaws
+pub mod HeadLaws

@@ -23,6 +23,9 @@ use Rattle.line.proofs.CodeLaws.{lawful}
 use Rattle.line.proofs.TripLaws.{length-decoding}
 use Rattle.line.specs.Decoding.{valueAt, goodRun, decoding, decoded}
 use Rattle.line.specs.declared.Decoded.{Decoded}
+use Rattle.line.proofs.AnswerLaws.{decoded-in-range}
+use Rattle.line.proofs.CodeLaws.{lawful}
+use Rattle.line.proofs.TripLaws.{length-decoding}
 use Rattle.radio.specs.declared.Reception.{Reception}
 use Rattle.radio.specs.Receiving.{refused, coded, answerOf, toldBy}
 use Rattle.frame.specs.declared.Format.{Format}
@@ -46,8 +49,8 @@ module _ (κ : LineCode) (s : List ℕ) (at n : ℕ) (room : List ℕ) (h : leng
 
   decoded-tested : decoded κ s at n room
       ≡ tested (ltb (chipCount s) (at + chipsIn κ n)) (ltb (goodRun (valueAt κ s at) (wordsIn κ n)) (wordsIn κ n))
-  unfolding decoded tested
-  decoded-tested = rw (le-ltb roomLimit (length s) h, le-ltb (chipCount s) at g, le-ltb (length room) n l)
+  unfolding tested
+  decoded-tested = decoded-in-range κ s at n room h g l
 
   told : (d : List ℕ) (next : Outcome Reception) (o : Outcome Decoded) → o ≡ decoded κ s at n room → codedBy (o .answer) d next ≡ coded κ s at n d next
   unfolding coded tested

@@ -12,16 +12,18 @@ use native.Mathlib.Nat.{add-zero, not-suc-le-zero}
 use native.Mathlib.Omega.{arith}
 use borrow.Author.Tests.{le-leb, leb-true}
 use lib.Dec.{leb}
-use lib.ListN.{length, drop}
+use lib.ListN.{length, drop, getD}
 use lib.Pow.{high}
 use Rattle.ground.specs.Outcome.{Outcome}
 use Rattle.chips.specs.Chips.{chipAt, wordAt, chipCount, roomLimit}
 use Rattle.chips.proofs.GatherLaws.{gather-add, gather-lt, chipAt-lt}
 use Rattle.line.specs.declared.Code.the-variants.{ThreeOfSix}
+use Rattle.line.specs.declared.Value.{Value}
 use Rattle.line.specs.declared.Value.the-variants.{NoWord}
-use Rattle.line.specs.Codes.{codeOf, numberFor, valueOf, wordsIn}
+use Rattle.line.specs.Codes.{codeOf, valueOf, wordsIn}
 use Rattle.line.specs.Decoding.{valueAt, isWord}
 use Rattle.line.proofs.CodeLaws.{lawful}
+use Rattle.line.proofs.ExampleLaws.{never-words}
 use Rattle.line.proofs.GoodRunLaws.{goodRun-all}
 use Rattle.line.proofs.TripLaws.{decode-run}
 use Rattle.frame.specs.declared.Format.the-variants.{A}
@@ -55,9 +57,9 @@ first-six s at =
 
 -- 010101 is no three-of-six word
 never-21 : (y : ℕ) → y ≡ 0b010101 → isWord (valueOf (codeOf ThreeOfSix) y) ≡ true → ⊥
-unfolding numberFor
 never-21 y e h =
-    let none : valueOf (codeOf ThreeOfSix) y ≡ NoWord = ap (valueOf (codeOf ThreeOfSix)) e in
+    let none : valueOf (codeOf ThreeOfSix) y ≡ NoWord
+    = ap (valueOf (codeOf ThreeOfSix)) e ∙ ap (λ (l : List Value). getD l 1 NoWord) (never-words .0) in
     let clash : false ≡ true = sym (ap isWord none) ∙ h in
     let z : _≡_ {A = ℕ} 0 1 = cc in
     omega arith

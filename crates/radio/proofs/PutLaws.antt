@@ -17,6 +17,7 @@ use lib.Seq.{drop-at, drop-drop, take-all}
 use Rattle.ground.specs.Outcome.{Outcome}
 use Rattle.line.specs.Codes.{LineCode, codeOf}
 use Rattle.line.specs.declared.Code.{Code}
+use Rattle.line.proofs.AnswerLaws.{encoded-no-room, encoded-accepted}
 use Rattle.line.specs.Encoding.{encoding, encoded, sizeFor}
 use Rattle.line.specs.declared.Encoded.{Encoded}
 use Rattle.sync.specs.declared.Kind.{Kind}
@@ -59,8 +60,12 @@ module _ (k : Kind) (p d : List ℕ) where
     full = ltb (length (drop start d)) (sizeFor (lineOf k) (length p))
 
     encoded-tested : encoded (lineOf k) p (drop start d) ≡ tested full
-    unfolding encoded tested
-    encoded-tested = refl
+    unfolding tested
+    encoded-tested = by-test full refl
+      where
+        by-test : (t : Bool) → full ≡ t → encoded (lineOf k) p (drop start d) ≡ tested t
+        by-test true f = encoded-no-room (lineOf k) p (drop start d) (ltb-true (length (drop start d)) (sizeFor (lineOf k) (length p)) f)
+        by-test false f = encoded-accepted (lineOf k) p (drop start d) (ltb-false (length (drop start d)) (sizeFor (lineOf k) (length p)) f)
 
     pub put-refused : (m : List ℕ) (a : Encoded) → _≡_ {A = Outcome Encoded} (record { answer = a; memory = m }) (behind start d (encoded (lineOf k) p (drop start d)))
         → a ≡ Encoded.NoRoom → _≡_ {A = Outcome Sent} (record { answer = Sent.NoRoom; memory = m }) (putting k p d)

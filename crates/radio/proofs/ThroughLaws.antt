@@ -18,10 +18,10 @@ use lib.Dec.{ltb}
 use lib.ListN.{length, getD}
 use Rattle.ground.specs.Outcome.{Outcome}
 use Rattle.ground.proofs.ByteLaws.{Bytes}
-use Rattle.chips.specs.Chips.{chipCount, gather}
-use Rattle.chips.proofs.PackingLaws.{packed-whole, getD-tabulate}
+use Rattle.chips.specs.Chips.{chipCount}
 use Rattle.line.specs.Codes.{LineCode, wordsIn, chipsIn}
-use Rattle.line.specs.Decoding.{valueAt, goodRun, decodedChip, decoding}
+use Rattle.line.specs.Decoding.{valueAt, goodRun, decoding}
+use Rattle.line.proofs.HeadLaws.{decoding-head}
 use Rattle.line.proofs.CodeLaws.{Lawful}
 use Rattle.line.proofs.GoodRunLaws.{goodRun-le, goodRun-all, goodRun-whole}
 use Rattle.line.proofs.TripLaws.{Holds, decode-run, decode-encode, encode-decode}
@@ -67,14 +67,8 @@ through-less κ s at m n h p =
       words = goodRun-whole (valueAt κ s at) (wordsIn κ m) (λ i l. goodRun-all (valueAt κ s at) (wordsIn κ n) (p .words) i (omega arith));
     }
 
--- the byte at 0 of n decoded bytes does not go by n
-byte-at : (κ : LineCode) (s : List ℕ) (at n : ℕ) → 0 < n → getD (decoding κ s at n) 0 0 ≡ gather (decodedChip κ s at) 0 8
-unfolding decoding
-byte-at κ s at n h =
-    ap (λ (l : List ℕ). getD l 0 0) (packed-whole n (decodedChip κ s at)) ∙ getD-tabulate (λ j. gather (decodedChip κ s at) (8 * j) 8) n 0 h
-
 pub first-byte : (κ : LineCode) (s : List ℕ) (at n : ℕ) → 0 < n → getD (decoding κ s at n) 0 0 ≡ lengthAt κ s at
-first-byte κ s at n h = byte-at κ s at n h ∙ sym (byte-at κ s at 1 (omega arith))
+first-byte κ s at n h = decoding-head κ s at n 1 h (omega arith)
 
 module _ (κ : LineCode) (law : Lawful κ) (s : List ℕ) (at : ℕ) where
   pub holds-through : (b : List ℕ) → Holds κ s at b → at + chipsIn κ (length b) ≤ chipCount s → Through κ s at (length b)
