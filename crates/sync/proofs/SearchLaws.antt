@@ -12,6 +12,7 @@ use native.Mathlib.Omega.{arith}
 use borrow.Author.Tests.{lt-ltb, le-ltb, le-leb, lt-leb, ltb-true, ltb-false, leb-true, leb-false, eqb-true, eqb-false, eq-eqb, ne-eqb}
 use lib.Dec.{ltb, leb}
 use lib.ListN.{length}
+use Rattle.ground.proofs.CaseLaws.{clash}
 use Rattle.chips.specs.Chips.{wordAt, chipCount, roomLimit}
 use Rattle.sync.specs.SyncSearch.{passed, standsAt, positions, reach, outcomeOf, nowhere, searchFor}
 use Rattle.sync.specs.FirstMatch.{FirstAt, Nowhere}
@@ -79,8 +80,8 @@ module _ (v w : ℕ) (s : List ℕ) (start a : ℕ) where
   found-test k t false e f = absurd (by-test (leb (positions w s start) a) f)
     where
       by-test : (b : Bool) → cond b (NoSync (positions w s start)) (UsedUp a) ≡ Found k t → ⊥
-      by-test true d = let z : _≡_ {A = ℕ} 0 1 = cc in omega arith
-      by-test false d = let z : _≡_ {A = ℕ} 0 1 = cc in omega arith
+      by-test true d = absurd (clash (cc))
+      by-test false d = absurd (clash (cc))
 
   -- a place that was passed over
   missed-at : (j : ℕ) → start ≤ j → j < start + gone → wordAt s j w ≡ v → ⊥
@@ -90,7 +91,7 @@ module _ (v w : ℕ) (s : List ℕ) (start a : ℕ) where
 
   pub found-first : (k t : ℕ) → searchFor v w s start a ≡ Found k t → FirstAt v w s start a k t
   found-first k t e =
-      let r = in-range (Found k t) e (λ d. let z : _≡_ {A = ℕ} 0 1 = cc in omega arith) in
+      let r = in-range (Found k t) e (λ d. absurd (clash (cc))) in
       let f = found-test k t (ltb gone most) refl (sym (searchFor-in (r .0) (r .1)) ∙ e) in
       record {
         behind = omega arith;
@@ -126,8 +127,8 @@ module _ (v w : ℕ) (s : List ℕ) (start a : ℕ) where
   pub nosync-nowhere : (t : ℕ) → searchFor v w s start a ≡ NoSync t
       → (t ≡ positions w s start) × ((t ≤ a) × Nowhere v w s start t)
   nosync-nowhere t e =
-      let r = in-range (NoSync t) e (λ d. let z : _≡_ {A = ℕ} 0 1 = cc in omega arith) in
-      let f = none-test (NoSync t) (ltb gone most) refl (λ k n d. let z : _≡_ {A = ℕ} 0 1 = cc in omega arith) (sym (searchFor-in (r .0) (r .1)) ∙ e) in
+      let r = in-range (NoSync t) e (λ d. absurd (clash (cc))) in
+      let f = none-test (NoSync t) (ltb gone most) refl (λ k n d. absurd (clash (cc))) (sym (searchFor-in (r .0) (r .1)) ∙ e) in
       let g = by-test (leb (positions w s start) a) refl (f .1) in
       let m : t ≡ most = omega arith in
       (g .0, (omega arith, rw m (missed (f .0))))
@@ -135,20 +136,20 @@ module _ (v w : ℕ) (s : List ℕ) (start a : ℕ) where
       by-test : (b : Bool) → leb (positions w s start) a ≡ b → cond b (NoSync (positions w s start)) (UsedUp a) ≡ NoSync t
           → (t ≡ positions w s start) × (positions w s start ≤ a)
       by-test true d f = (cc, leb-true (positions w s start) a d)
-      by-test false d f = let z : _≡_ {A = ℕ} 0 1 = cc in omega arith
+      by-test false d f = absurd (clash (cc))
 
   pub usedup-nowhere : (t : ℕ) → searchFor v w s start a ≡ UsedUp t
       → (t ≡ a) × ((a < positions w s start) × Nowhere v w s start t)
   usedup-nowhere t e =
-      let r = in-range (UsedUp t) e (λ d. let z : _≡_ {A = ℕ} 0 1 = cc in omega arith) in
-      let f = none-test (UsedUp t) (ltb gone most) refl (λ k n d. let z : _≡_ {A = ℕ} 0 1 = cc in omega arith) (sym (searchFor-in (r .0) (r .1)) ∙ e) in
+      let r = in-range (UsedUp t) e (λ d. absurd (clash (cc))) in
+      let f = none-test (UsedUp t) (ltb gone most) refl (λ k n d. absurd (clash (cc))) (sym (searchFor-in (r .0) (r .1)) ∙ e) in
       let g = by-test (leb (positions w s start) a) refl (f .1) in
       let m : t ≡ most = omega arith in
       (g .0, (g .1, rw m (missed (f .0))))
     where
       by-test : (b : Bool) → leb (positions w s start) a ≡ b → cond b (NoSync (positions w s start)) (UsedUp a) ≡ UsedUp t
           → (t ≡ a) × (a < positions w s start)
-      by-test true d f = let z : _≡_ {A = ℕ} 0 1 = cc in omega arith
+      by-test true d f = absurd (clash (cc))
       by-test false d f = (cc, leb-false (positions w s start) a d)
 
   passed-all : Nowhere v w s start most → gone ≡ most

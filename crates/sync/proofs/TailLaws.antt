@@ -13,6 +13,7 @@ use native.Mathlib.Omega.{arith}
 use borrow.Author.Tests.{lt-ltb, le-ltb, le-leb, lt-leb, leb-true, ltb-false, eqb-true, eqb-false, eq-eqb, ne-eqb}
 use lib.Dec.{leb, ltb, eqb}
 use lib.ListN.{length}
+use Rattle.ground.proofs.CaseLaws.{clash}
 use Rattle.chips.specs.Chips.{wordAt, chipCount, roomLimit}
 use Rattle.sync.specs.Tails.{tailOf, kindFor}
 use Rattle.sync.specs.declared.Tail.{Tail}
@@ -62,10 +63,10 @@ tailOf-begun s k kind e =
     by-tests (leb (length s) roomLimit) refl (leb k (chipCount s)) (ltb (chipCount s) (k + 32)) refl (kindFor k (wordAt s (k + 16) 16)) refl e
   where
     outside : OutOfRange ≡ Begins kind → ⊥
-    outside h = let z : _≡_ {A = ℕ} 0 1 = cc in omega arith
+    outside h = absurd (clash (cc))
 
     short : Short ≡ Begins kind → ⊥
-    short h = let z : _≡_ {A = ℕ} 0 1 = cc in omega arith
+    short h = absurd (clash (cc))
 
     by-tests : (a : Bool) → leb (length s) roomLimit ≡ a → (b t : Bool) → ltb (chipCount s) (k + 32) ≡ t → (o : Tail) → kindFor k (wordAt s (k + 16) 16) ≡ o
         → cond (cond a b false) (cond t Short o) OutOfRange ≡ Begins kind → BegunBy s k kind
@@ -101,7 +102,7 @@ kindFor-fits k t kind e = by-tests (eqb t 0x54CD) refl (eqb t 0x543D) refl (eqb 
     by-tests false p false q true r g = absurd (unknown g)
       where
         unknown : UnknownTail k ≡ Begins kind → ⊥
-        unknown h = let z : _≡_ {A = ℕ} 0 1 = cc in omega arith
+        unknown h = absurd (clash (cc))
 
 pub fits-kindFor : (k t : ℕ) (kind : Kind) → TailFits kind t → kindFor k t ≡ Begins kind
 fits-kindFor k t CWithA e = rw (eq-eqb t 0x54CD e)
