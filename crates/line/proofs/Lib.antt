@@ -7,6 +7,7 @@ pub mod EncodingLaws
 pub mod ExampleLaws
 pub mod FillingLaws
 pub mod GoodRunLaws
+pub mod HalvesLaws
 pub mod PouringLaws
 pub mod ReadingLaws
 pub mod TripLaws

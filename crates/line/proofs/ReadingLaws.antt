@@ -1,4 +1,4 @@
--- One byte read word by word: what holds after k of its words (the invariant of `line::byte_at`), and what follows.
+-- One byte read word by word: what holds after k of its words (the invariant of `line::words_at`), and what follows.
 --     Reading              b, w and m are the code's bits, chips and words of a byte; the first k words are code words and x is the
 --                          number that they make, one behind the other
 --     reading-start        before the first word

@@ -6,7 +6,7 @@ ghost use lib.ListN.{length, take, drop};
 ghost use Rattle.ground.specs.Outcome.{Outcome};
 ghost use Rattle.chips.specs.Chips.{gather, wordAt, chipCount, roomLimit};
 ghost use Rattle.chips.specs.Packing.{upTo};
-ghost use Rattle.line.specs.Codes.{codeOf, valueOf, Guess, wordsIn, chipsIn};
+ghost use Rattle.line.specs.Codes.{codeOf, valueOf, Guess, Halves, wordsIn, chipsIn};
 ghost use Rattle.line.specs.OneWord.{wordRead};
 ghost use Rattle.line.specs.Decoding.{valueAt, goodRun, byteRead, decoding, decoded};
 ghost use Rattle.line.specs.Encoding.{encodedChip, encoding, sizeFor, encoded};
@@ -81,6 +81,74 @@ const CODE_WORDS: [u8; 16] = [
 const LOW_GUESSES: u64 = 0x0214_3650_0000_7000;
 
 const HIGH_GUESSES: u64 = 0x0008_00f0_0a9c_bed0;
+
+// Table 10 from its other side: the number of each word of six chips, 16 where it is no code word.
+const HALVES: [u8; 64] = [
+    16,
+    16,
+    16,
+    16,
+    16,
+    16,
+    16,
+    16,
+    16,
+    16,
+    16,
+    3,
+    16,
+    1,
+    2,
+    16,
+    16,
+    16,
+    16,
+    7,
+    16,
+    16,
+    0,
+    16,
+    16,
+    5,
+    6,
+    16,
+    4,
+    16,
+    16,
+    16,
+    16,
+    16,
+    16,
+    11,
+    16,
+    9,
+    10,
+    16,
+    16,
+    15,
+    16,
+    16,
+    8,
+    16,
+    16,
+    16,
+    16,
+    13,
+    14,
+    16,
+    12,
+    16,
+    16,
+    16,
+    16,
+    16,
+    16,
+    16,
+    16,
+    16,
+    16,
+    16,
+];
 
 // A received chip buffer has at most so many bytes (house).
 const ROOM: usize = 1024;
@@ -238,8 +306,9 @@ pub fn word_at(code: Code, s: &[u8], at: usize) -> Word
     }
 }
 
-// The byte whose words begin at chip `at`, or the place of the first of them that is no code word.
-fn byte_at(code: Code, s: &[u8], at: usize) -> Byte
+// The byte whose words begin at chip `at`, or the place of the first of them that is no code word: word by word, whatever
+// the code.
+fn words_at(code: Code, s: &[u8], at: usize) -> Byte
     requires { ⌜ (length (now s) ≤ roomLimit) × (at + 8 / codeOf code .bits * codeOf code .chips ≤ chipCount (now s)) ⌝ }
     ensures { λ r. ⌜ r ≡ byteRead (codeOf code) (now (s .entry)) at ⌝ }
 {
@@ -258,6 +327,59 @@ fn byte_at(code: Code, s: &[u8], at: usize) -> Byte
     Byte::Is(x as u8)
 }
 
+// The twenty-four chips of the byte at k and the two behind it.
+fn three_at(s: &[u8], k: usize) -> u32
+    requires { ⌜ k < length (now s) ⌝ }
+    ensures { λ r. ⌜ r ≡ wordAt (now (s .entry)) (8 * k) 24 ⌝ }
+{
+    if k + 2 < s.len() {
+        wide(s[k]) * 65536 + wide(s[k + 1]) * 256 + wide(s[k + 2])
+    } else {
+        pair_at(s, k) * 256
+    }
+}
+
+// The thirty-two chips of the byte at k and the three behind it.
+fn four_at(s: &[u8], k: usize) -> u32
+    requires { ⌜ k < length (now s) ⌝ }
+    ensures { λ r. ⌜ r ≡ wordAt (now (s .entry)) (8 * k) 32 ⌝ }
+{
+    if k + 3 < s.len() {
+        wide(s[k]) * 16777216 + wide(s[k + 1]) * 65536 + wide(s[k + 2]) * 256 + wide(s[k + 3])
+    } else {
+        three_at(s, k) * 256
+    }
+}
+
+// The same for three-of-six, quicker: both words are cut out of four bytes at once, which are one load, and looked up in
+// `halves`. The caller holds that table, since a constant is copied at each use (D16).
+fn halves_at(halves: &[u8], s: &[u8], at: usize) -> Byte
+    requires { ⌜ Halves (now halves) × (at + 12 ≤ chipCount (now s)) ⌝ }
+    ensures { λ r. ⌜ r ≡ byteRead (codeOf ThreeOfSix) (now (s .entry)) at ⌝ }
+{
+    let chips = four_at(s, at / 8) >> ((20 - at % 8) as u32);
+    let high = halves[(chips / 64 % 64) as usize];
+    let low = halves[(chips % 64) as usize];
+    if 15 < high {
+        return Byte::Bad(0);
+    }
+    if 15 < low {
+        return Byte::Bad(1);
+    }
+    Byte::Is(high * 16 + low)
+}
+
+// The byte whose words begin at chip `at`, the quickest way that its code has.
+fn byte_at(code: Code, halves: &[u8], s: &[u8], at: usize) -> Byte
+    requires { ⌜ Halves (now halves) × ((length (now s) ≤ roomLimit) × (at + 8 / codeOf code .bits * codeOf code .chips ≤ chipCount (now s))) ⌝ }
+    ensures { λ r. ⌜ r ≡ byteRead (codeOf code) (now (s .entry)) at ⌝ }
+{
+    match code {
+        Code::ThreeOfSix => halves_at(halves, s, at),
+        _ => words_at(code, s, at),
+    }
+}
+
 // Decodes n bytes from chip `start` on into `room`, up to the first word that is no code word; the number of code
 // words before it.
 fn fill(code: Code, s: &[u8], start: usize, n: usize, room: &mut [u8]) -> usize
@@ -266,9 +388,10 @@ fn fill(code: Code, s: &[u8], start: usize, n: usize, room: &mut [u8]) -> usize
 {
     let m = per_byte(code);
     let unit = m * width(code);
+    let halves = HALVES;
     let mut i: usize = 0;
     while i < n {
-        match byte_at(code, s, start + i * unit) {
+        match byte_at(code, &halves, s, start + i * unit) {
             Byte::Is(x) => room[i] = x,
             Byte::Bad(k) => return i * m + k,
         }

@@ -7,16 +7,17 @@ use borrow.Author.Needs.{needs}
 use lib.ListN.{length}
 use Rattle.line.proofs.CodeLaws.{lawful, words-le}
 use Rattle.line.proofs.FillingLaws.{Filling, filling-start, filling-fits, filling-step, filling-bad, filling-end, filling-length}
-use Rattle.line.specs.Codes.{codeOf, wordsIn}
+use Rattle.line.proofs.HalvesLaws.{halves-listed}
+use Rattle.line.specs.Codes.{codeOf, numberFor, wordsIn}
 use Rattle.line.specs.Decoding.{valueAt, goodRun}
 use Rattle.line.proofs.fill.Statement.{statement}
 use Rattle.line.proofs.fill.Tie as tie
 
 abbrev Inv-loop : tie.InvT-loop
-Inv-loop code s start n room₀ m unit i₀ room i = Filling (codeOf code) s start n m unit i room room₀
+Inv-loop code s start n room₀ m unit halves i₀ room i = Filling (codeOf code) s start n m unit i room room₀
 
 abbrev μ-loop : tie.MeasureT-loop
-μ-loop code s start n room₀ m unit i₀ room i = n - i
+μ-loop code s start n room₀ m unit halves i₀ room i = n - i
 
 per-byte-requires : tie.Need-per-byte-requires Inv-loop μ-loop
 per-byte-requires c κs = search needs
@@ -50,51 +51,56 @@ fits c =
     let now = c .before .loop in
     filling-fits (codeOf (at .code)) (lawful (at .code)) (at .s .now) (at .start) (at .n) (c .before .before .before .per-byte .result) (c .before .before .before .per-byte .result * c .before .before .width .result) (now .i) (now .room) (at .room .now) (now .inv) (c .loop-test .taken) (c .before .before .before .before .before .before .pre .1 .1)
 
+slice-aggregate-byte-at : tie.Need-slice-aggregate-byte-at Inv-loop μ-loop
+slice-aggregate-byte-at c = search needs
+
 mul-byte-at : tie.Need-mul-byte-at Inv-loop μ-loop
-mul-byte-at c = omega (arith, fits c)
+mul-byte-at c = omega (arith, fits (c .before))
 
 add-byte-at : tie.Need-add-byte-at Inv-loop μ-loop
-add-byte-at c = omega (arith, fits c)
+add-byte-at c = omega (arith, fits (c .before))
 
+-- the constant is the table, by computation
 byte-at-requires : tie.Need-byte-at-requires Inv-loop μ-loop
-byte-at-requires c κs = omega (arith, fits c)
+unfolding numberFor
+byte-at-requires c κs = (halves-listed, (search needs, fits (c .before)))
 
 enum-known-x : tie.Need-enum-known-x Inv-loop μ-loop
 enum-known-x c = search needs
 
 slice-write-room : tie.Need-slice-write-room Inv-loop μ-loop
-slice-write-room c = omega (arith, kept (c .before .before .before .before .before))
+slice-write-room c = omega (arith, kept (c .before .before .before .before .before .before))
 
 enum-known-k : tie.Need-enum-known-k Inv-loop μ-loop
 enum-known-k c = search needs
 
 -- the first word that is none
 bad : (c : tie.After-known-told2 Inv-loop μ-loop)
-    → (goodRun (valueAt (codeOf (c .before .before .before .before .before .before .before .before .before .before .args .code)) (c .before .before .before .before .before .before .before .before .before .before .args .s .now) (c .before .before .before .before .before .before .before .before .before .before .args .start)) (wordsIn (codeOf (c .before .before .before .before .before .before .before .before .before .before .args .code)) (c .before .before .before .before .before .before .before .before .before .before .args .n)) ≡ c .before .before .before .before .before .loop .i * c .before .before .before .before .before .before .before .per-byte .result + c .before .k .given .0 .0)
-    × (c .before .before .before .before .before .loop .i * c .before .before .before .before .before .before .before .per-byte .result + c .before .k .given .0 .0 < wordsIn (codeOf (c .before .before .before .before .before .before .before .before .before .before .args .code)) (c .before .before .before .before .before .before .before .before .before .before .args .n))
+    → (goodRun (valueAt (codeOf (c .before .before .before .before .before .before .before .before .before .before .before .args .code)) (c .before .before .before .before .before .before .before .before .before .before .before .args .s .now) (c .before .before .before .before .before .before .before .before .before .before .before .args .start)) (wordsIn (codeOf (c .before .before .before .before .before .before .before .before .before .before .before .args .code)) (c .before .before .before .before .before .before .before .before .before .before .before .args .n)) ≡ c .before .before .before .before .before .before .loop .i * c .before .before .before .before .before .before .before .before .per-byte .result + c .before .k .given .0 .0)
+    × (c .before .before .before .before .before .before .loop .i * c .before .before .before .before .before .before .before .before .per-byte .result + c .before .k .given .0 .0 < wordsIn (codeOf (c .before .before .before .before .before .before .before .before .before .before .before .args .code)) (c .before .before .before .before .before .before .before .before .before .before .before .args .n))
 bad c =
-    let at = c .before .before .before .before .before .before .before .before .before .before .args in
-    let now = c .before .before .before .before .before .loop in
-    filling-bad (codeOf (at .code)) (lawful (at .code)) (at .s .now) (at .start) (at .n) (c .before .before .before .before .before .before .before .per-byte .result) (c .before .before .before .before .before .before .before .per-byte .result * c .before .before .before .before .before .before .width .result) (now .i) (now .room) (at .room .now) (now .inv) (c .before .k .given .0 .0) (c .before .before .before .before .loop-test .taken) (sym (c .before .before .before .byte-at .ensures) ∙ c .before .k .given .1)
+    let at = c .before .before .before .before .before .before .before .before .before .before .before .args in
+    let now = c .before .before .before .before .before .before .loop in
+    filling-bad (codeOf (at .code)) (lawful (at .code)) (at .s .now) (at .start) (at .n) (c .before .before .before .before .before .before .before .before .per-byte .result) (c .before .before .before .before .before .before .before .before .per-byte .result * c .before .before .before .before .before .before .before .width .result) (now .i) (now .room) (at .room .now) (now .inv) (c .before .k .given .0 .0) (c .before .before .before .before .before .loop-test .taken) (sym (c .before .before .before .byte-at .ensures) ∙ c .before .k .given .1)
 
 mul-result : tie.Need-mul-result Inv-loop μ-loop
 mul-result c =
-    let at = c .before .before .before .before .before .before .before .before .before .before .args in
+    let at = c .before .before .before .before .before .before .before .before .before .before .before .args in
     omega (arith, bad c .1, words-le (codeOf (at .code)) (lawful (at .code)) (at .n))
 
 add-result : tie.Need-add-result Inv-loop μ-loop
 add-result c =
-    let at = c .before .before .before .before .before .before .before .before .before .before .args in
+    let at = c .before .before .before .before .before .before .before .before .before .before .before .args in
     omega (arith, bad c .1, words-le (codeOf (at .code)) (lawful (at .code)) (at .n))
 
 returns : tie.Need-returns Inv-loop μ-loop
 returns c =
     (sym (bad c .0), λ e. absurd (off c e)) where
-      off : (c : tie.After-known-told2 Inv-loop μ-loop) → c .before .before .before .before .before .loop .i * c .before .before .before .before .before .before .before .per-byte .result + c .before .k .given .0 .0 ≡ wordsIn (codeOf (c .before .before .before .before .before .before .before .before .before .before .args .code)) (c .before .before .before .before .before .before .before .before .before .before .args .n) → ⊥
+      off : (c : tie.After-known-told2 Inv-loop μ-loop) → c .before .before .before .before .before .before .loop .i * c .before .before .before .before .before .before .before .before .per-byte .result + c .before .k .given .0 .0 ≡ wordsIn (codeOf (c .before .before .before .before .before .before .before .before .before .before .before .args .code)) (c .before .before .before .before .before .before .before .before .before .before .before .args .n) → ⊥
       off c e = omega (arith, bad c .1)
 
 same-length : tie.Need-same-length Inv-loop μ-loop
-same-length c = kept (c .before .before .before .before .before)
+same-length c = kept (c .before .before .before .before .before .before)
 
 add-i : tie.Need-add-i Inv-loop μ-loop
 add-i c = search needs
@@ -104,9 +110,9 @@ loop-less c = search needs
 
 loop-again : tie.Need-loop-again Inv-loop μ-loop
 loop-again c =
-    let at = c .before .before .before .before .before .before .before .before .before .before .args in
-    let now = c .before .before .before .before .before .loop in
-    filling-step (codeOf (at .code)) (lawful (at .code)) (at .s .now) (at .start) (at .n) (c .before .before .before .before .before .before .before .per-byte .result) (c .before .before .before .before .before .before .before .per-byte .result * c .before .before .before .before .before .before .width .result) (now .i) (now .room) (at .room .now) (now .inv) (c .before .x .given .0 .0) (c .before .before .before .before .loop-test .taken) (omega arith) (sym (c .before .before .before .byte-at .ensures) ∙ c .before .x .given .1)
+    let at = c .before .before .before .before .before .before .before .before .before .before .before .args in
+    let now = c .before .before .before .before .before .before .loop in
+    filling-step (codeOf (at .code)) (lawful (at .code)) (at .s .now) (at .start) (at .n) (c .before .before .before .before .before .before .before .before .per-byte .result) (c .before .before .before .before .before .before .before .before .per-byte .result * c .before .before .before .before .before .before .before .width .result) (now .i) (now .room) (at .room .now) (now .inv) (c .before .x .given .0 .0) (c .before .before .before .before .before .loop-test .taken) (omega arith) (sym (c .before .before .before .byte-at .ensures) ∙ c .before .x .given .1)
 
 mul-result-2 : tie.Need-mul-result-2 Inv-loop μ-loop
 mul-result-2 c =
@@ -133,6 +139,7 @@ fill-spec =
     width-requires
     mul-unit
     loop-holds
+    slice-aggregate-byte-at
     mul-byte-at
     add-byte-at
     byte-at-requires
