@@ -87,3 +87,38 @@ fn headers_and_names() {
     assert_eq!(kusikhut::wanted(&entries, 16, &CONTENT), Ok(true));
     assert_eq!(kusikhut::wanted(&entries, 15, &CONTENT), Ok(false));
 }
+
+/// Demand 3, run: after each of a thousand changes, refused ones among them, the buffer holds the frame written afresh.
+#[test]
+fn changes_in_any_order_are_writing_afresh() {
+    let mut state = 20_261_115u64;
+    let mut next = move |below: usize| {
+        state ^= state << 13;
+        state ^= state >> 7;
+        state ^= state << 17;
+        (state % below as u64) as usize
+    };
+    for (format, n) in [(Format::A, 10), (Format::A, 255), (Format::B, 125), (Format::B, 126), (Format::B, 251)] {
+        let mut content: Vec<u8> = (0..n).map(|i| (7 * i + 3) as u8).collect();
+        let mut frame = [UNTOUCHED; 300];
+        let size = format.write(&content, &mut frame).expect("there is room") as usize;
+        let mut refused = 0;
+        for _ in 0..1000 {
+            let (place, byte) = (next(n + n / 4), next(256) as u8);
+            match format.change(&mut frame, place, byte) {
+                Ok(f) => {
+                    assert_eq!((f.size as usize, f.n as usize), (size, n));
+                    content[place] = byte;
+                }
+                Err(why) => {
+                    assert_eq!((why, place >= n), (Refusal::BadPlace, true));
+                    refused += 1;
+                }
+            }
+            let mut afresh = [UNTOUCHED; 300];
+            format.write(&content, &mut afresh).expect("there is room");
+            assert_eq!(frame, afresh);
+        }
+        assert!(refused > 0, "no change was refused: this run shows less than it says");
+    }
+}
