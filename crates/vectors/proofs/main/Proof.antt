@@ -13,67 +13,51 @@ Inv-loop text n from₀ from = (n ≤ length text) × (length text ≡ 4096)
 abbrev μ-loop : tie.MeasureT-loop
 μ-loop text n from₀ from = n - from
 
--- src/main.rt:151:41
 slice-aggregate-read-full : tie.Need-slice-aggregate-read-full Inv-loop μ-loop
 slice-aggregate-read-full c = search needs
 
--- src/main.rt:151:9
 read-full-requires : tie.Need-read-full-requires Inv-loop μ-loop
 read-full-requires c κs = search needs
 
--- src/main.rt:153:5
 loop-holds : tie.Need-loop-holds Inv-loop μ-loop
 loop-holds c = search needs
 
--- src/main.rt:154:33
 array-share-prefix-text : tie.Need-array-share-prefix-text Inv-loop μ-loop
 array-share-prefix-text c = search needs
 
--- src/main.rt:154:33
 slice-aggregate-line-length : tie.Need-slice-aggregate-line-length Inv-loop μ-loop
 slice-aggregate-line-length c = simp length-take (omega arith)
 
--- src/main.rt:154:13
 line-length-requires : tie.Need-line-length-requires Inv-loop μ-loop
 line-length-requires c κs = simp length-take (omega arith)
 
--- src/main.rt:155:19
 add-end : tie.Need-add-end Inv-loop μ-loop
 add-end c = search needs
 
--- src/main.rt:157:14
 sub-pack : tie.Need-sub-pack Inv-loop μ-loop
 sub-pack c = search needs
 
--- src/main.rt:157:14
 part-pack-start : tie.Need-part-pack-start Inv-loop μ-loop
 part-pack-start c = search needs
 
--- src/main.rt:157:14
 part-pack-end : tie.Need-part-pack-end Inv-loop μ-loop
 part-pack-end c = search needs
 
--- src/main.rt:157:9
 pack-requires : tie.Need-pack-requires Inv-loop μ-loop
 pack-requires c κs = search needs
 
--- src/main.rt:158:9
 show-requires : tie.Need-show-requires Inv-loop μ-loop
 show-requires c κs = search needs
 
--- src/main.rt:159:16
 add-from : tie.Need-add-from Inv-loop μ-loop
 add-from c = search needs
 
--- src/main.rt:153:5
 loop-less : tie.Need-loop-less Inv-loop μ-loop
 loop-less c = search needs
 
--- src/main.rt:153:5
 loop-again : tie.Need-loop-again Inv-loop μ-loop
 loop-again c = search needs
 
--- src/main.rt:149:1
 returns : tie.Need-returns Inv-loop μ-loop
 returns c = search needs
 

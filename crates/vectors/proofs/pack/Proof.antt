@@ -11,31 +11,24 @@ Inv-loop line chips₀ count₀ chips count = count ≤ length line
 abbrev μ-loop : tie.MeasureT-loop
 μ-loop line chips₀ count₀ chips count = length line - count
 
--- src/main.rt:50:5
 loop-holds : tie.Need-loop-holds Inv-loop μ-loop
 loop-holds c = search needs
 
--- src/main.rt:51:18
 shared-slice-read-put-chip : tie.Need-shared-slice-read-put-chip Inv-loop μ-loop
 shared-slice-read-put-chip c = search needs
 
--- src/main.rt:51:9
 put-chip-requires : tie.Need-put-chip-requires Inv-loop μ-loop
 put-chip-requires c κs = search needs
 
--- src/main.rt:52:9
 add-count : tie.Need-add-count Inv-loop μ-loop
 add-count c = search needs
 
--- src/main.rt:50:5
 loop-less : tie.Need-loop-less Inv-loop μ-loop
 loop-less c = search needs
 
--- src/main.rt:50:5
 loop-again : tie.Need-loop-again Inv-loop μ-loop
 loop-again c = search needs
 
--- src/main.rt:48:1
 returns : tie.Need-returns Inv-loop μ-loop
 returns c = search needs
 

@@ -1,3 +1,4 @@
+-- `kusikhut::checks::kusikhut_update`: the answer of the call below, told by its number and its values.
 use borrow.Author.Needs.{needs}
 use Rattle.kusikhut.proofs.checks.kusikhut_update.Statement.{statement}
 use Rattle.kusikhut.proofs.checks.kusikhut_update.Tie as tie

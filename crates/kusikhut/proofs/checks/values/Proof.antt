@@ -1,3 +1,4 @@
+-- `kusikhut::checks::values`: in each case the row is the one that specs/Values gives for it.
 use borrow.Author.Needs.{needs}
 use Rattle.kusikhut.proofs.checks.values.Statement.{statement}
 use Rattle.kusikhut.proofs.checks.values.Tie as tie

@@ -1,3 +1,4 @@
+-- `kusikhut::codes::decode_values`: in each case the row is the one that specs/Values gives for it.
 use borrow.Author.Needs.{needs}
 use Rattle.kusikhut.proofs.codes.decode_values.Statement.{statement}
 use Rattle.kusikhut.proofs.codes.decode_values.Tie as tie

@@ -1,3 +1,4 @@
+-- `kusikhut::codes::encode`: the outcome of the call below, told by its number and its values.
 use borrow.Author.Needs.{needs}
 use Rattle.line.specs.Encoding.{numberOf}
 use Rattle.kusikhut.specs.Values.{encodeValues}

@@ -1,3 +1,4 @@
+-- `kusikhut::codes::word`: the answer of the call below, told by its number and its values.
 use borrow.Author.Needs.{needs}
 use Rattle.kusikhut.proofs.codes.word.Statement.{statement}
 use Rattle.kusikhut.proofs.codes.word.Tie as tie

@@ -1,3 +1,4 @@
+-- `kusikhut::frames::frame_size`: the answer of the call below, told by its number and its values.
 use borrow.Author.Needs.{needs}
 use Rattle.kusikhut.proofs.frames.frame_size.Statement.{statement}
 use Rattle.kusikhut.proofs.frames.frame_size.Tie as tie

@@ -1,3 +1,4 @@
+-- `kusikhut::frames::read`: the outcome of the call below, told by its number and its values.
 use borrow.Author.Needs.{needs}
 use Rattle.frame.specs.Numbers.{numberOfReading}
 use Rattle.kusikhut.specs.Values.{readValues}

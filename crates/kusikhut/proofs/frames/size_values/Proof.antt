@@ -1,3 +1,4 @@
+-- `kusikhut::frames::size_values`: in each case the row is the one that specs/Values gives for it.
 use borrow.Author.Needs.{needs}
 use Rattle.kusikhut.proofs.frames.size_values.Statement.{statement}
 use Rattle.kusikhut.proofs.frames.size_values.Tie as tie

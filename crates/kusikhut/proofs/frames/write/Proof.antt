@@ -1,3 +1,4 @@
+-- `kusikhut::frames::write`: the outcome of the call below, told by its number and its values.
 use borrow.Author.Needs.{needs}
 use Rattle.frame.specs.Numbers.{numberOfWritten}
 use Rattle.kusikhut.specs.Values.{writeValues}

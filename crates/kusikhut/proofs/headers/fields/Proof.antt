@@ -1,3 +1,4 @@
+-- `kusikhut::headers::fields`: the header's fields in the order of the row.
 use borrow.Author.Needs.{needs}
 use Rattle.kusikhut.proofs.headers.fields.Statement.{statement}
 use Rattle.kusikhut.proofs.headers.fields.Tie as tie

@@ -1,3 +1,4 @@
+-- `kusikhut::headers::kusikhut_access`: the answer of the call below, told by its number and its values.
 use borrow.Author.Needs.{needs}
 use Rattle.kusikhut.proofs.headers.kusikhut_access.Statement.{statement}
 use Rattle.kusikhut.proofs.headers.kusikhut_access.Tie as tie

@@ -1,3 +1,4 @@
+-- `kusikhut::headers::kusikhut_header_read`: the answer of the call below, told by its number and its values.
 use borrow.Author.Needs.{needs}
 use Rattle.kusikhut.proofs.headers.kusikhut_header_read.Statement.{statement}
 use Rattle.kusikhut.proofs.headers.kusikhut_header_read.Tie as tie

@@ -1,3 +1,4 @@
+-- `kusikhut::headers::kusikhut_header_write_8f`: the header put together from its parts is told as `write` tells it.
 use mathlib.Core.Path.{_∙_}
 use borrow.Author.Needs.{needs}
 use denote.Ref.{now}

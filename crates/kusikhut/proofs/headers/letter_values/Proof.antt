@@ -1,3 +1,4 @@
+-- `kusikhut::headers::letter_values`: in each case the row is the one that specs/Values gives for it.
 use borrow.Author.Needs.{needs}
 use Rattle.kusikhut.proofs.headers.letter_values.Statement.{statement}
 use Rattle.kusikhut.proofs.headers.letter_values.Tie as tie

@@ -1,3 +1,4 @@
+-- `kusikhut::headers::read_values`: in each case the row is the one that specs/Values gives for it.
 use mathlib.Core.Path.{_∙_, ap, sym}
 use borrow.Author.Needs.{needs}
 use Rattle.kusikhut.specs.Values.{headerValues}

@@ -1,3 +1,4 @@
+-- `kusikhut::headers::write`: the outcome of the call below, told by its number and its values.
 use borrow.Author.Needs.{needs}
 use Rattle.header.specs.Writing.{numberOf}
 use Rattle.kusikhut.specs.Values.{headerWriteValues}

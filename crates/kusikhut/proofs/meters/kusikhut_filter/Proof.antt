@@ -1,3 +1,4 @@
+-- `kusikhut::meters::kusikhut_filter`: the answer of the call below, told by its number and its values.
 use borrow.Author.Needs.{needs}
 use Rattle.kusikhut.proofs.meters.kusikhut_filter.Statement.{statement}
 use Rattle.kusikhut.proofs.meters.kusikhut_filter.Tie as tie

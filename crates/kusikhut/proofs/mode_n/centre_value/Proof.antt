@@ -1,3 +1,4 @@
+-- `kusikhut::mode_n::centre_value`: the centre, or the float 0 where there is none.
 use borrow.Author.Needs.{needs}
 use lib.Ieee.{ofBits, ofFields, round, size, span, climb, units, odd}
 use lib.Count.{trailingZeros}

@@ -1,3 +1,4 @@
+-- `kusikhut::mode_n::kusikhut_band_line`: the answer of the call below, told by its number and its values.
 use borrow.Author.Needs.{needs}
 use Rattle.kusikhut.proofs.mode_n.kusikhut_band_line.Statement.{statement}
 use Rattle.kusikhut.proofs.mode_n.kusikhut_band_line.Tie as tie

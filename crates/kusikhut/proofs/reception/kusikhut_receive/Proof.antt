@@ -1,3 +1,4 @@
+-- `kusikhut::reception::kusikhut_receive`: the outcome of the call below, told by its number and its values.
 use borrow.Author.Needs.{needs}
 use Rattle.radio.specs.Receiving.{numberOf}
 use Rattle.kusikhut.specs.Values.{receiveValues}

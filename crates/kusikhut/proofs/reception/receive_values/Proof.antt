@@ -1,3 +1,4 @@
+-- `kusikhut::reception::receive_values`: in each case the row is the one that specs/Values gives for it.
 use borrow.Author.Needs.{needs}
 use Rattle.kusikhut.proofs.reception.receive_values.Statement.{statement}
 use Rattle.kusikhut.proofs.reception.receive_values.Tie as tie

@@ -1,3 +1,4 @@
+-- `kusikhut::reception::send`: the outcome of the call below, told by its number and its values.
 use borrow.Author.Needs.{needs}
 use Rattle.radio.specs.Sending.{numberOf}
 use Rattle.kusikhut.specs.Values.{sendValues}

@@ -1,3 +1,4 @@
+-- `kusikhut::reception::send_values`: in each case the row is the one that specs/Values gives for it.
 use borrow.Author.Needs.{needs}
 use Rattle.kusikhut.proofs.reception.send_values.Statement.{statement}
 use Rattle.kusikhut.proofs.reception.send_values.Tie as tie

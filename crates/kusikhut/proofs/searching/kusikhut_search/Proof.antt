@@ -1,3 +1,4 @@
+-- `kusikhut::searching::kusikhut_search`: the answer of the call below, told by its number and its values.
 use borrow.Author.Needs.{needs}
 use Rattle.kusikhut.proofs.searching.kusikhut_search.Statement.{statement}
 use Rattle.kusikhut.proofs.searching.kusikhut_search.Tie as tie

@@ -1,3 +1,4 @@
+-- `kusikhut::searching::values`: in each case the row is the one that specs/Values gives for it.
 use borrow.Author.Needs.{needs}
 use Rattle.kusikhut.proofs.searching.values.Statement.{statement}
 use Rattle.kusikhut.proofs.searching.values.Tie as tie
