@@ -1,6 +1,6 @@
 /* Kusikhut: the proved wireless M-Bus link layer (EN 13757-4:2019) for C.
  *
- * Link with libkusikhut.a, which `rt staticlib kusikhut` writes to target/staticlib/.
+ * Link with libkusikhut.a, which `tools/library` writes to target/staticlib/ for the machine that it runs on.
  *
  * What a caller must see to, and nothing else:
  *  - Every pointer is valid for its length and not NULL, also where the length is 0.
@@ -16,8 +16,10 @@
  *   10 out of range (received chip buffer over 1,024 bytes, start above the chip count, filter count over 16,
  *      check distance over 125)       11 CI is none of the four     12 body shorter than its header, or empty
  *   13 no such channel                14 allowance used up, positions left, no sync
+ * The numbers with each function below stand in the order in which they are judged; docs/ANSWERS.md says more of them.
  * A refusal (any number but 0) changes no byte of `out` or `frame`. `results` is always written whole: the values named
- * below in this order, zero where the answer has no such value.
+ * below in this order, zero where the answer has no such value. A refusal shows at most one value, so the sum of its
+ * results is that value.
  *
  * A chip buffer holds its first chip in the highest bit of its first byte; a chip place counts from 0. */
 #ifndef KUSIKHUT_H

@@ -1,4 +1,4 @@
-// Links target/staticlib/libkusikhut.a of this repository, which `rt staticlib kusikhut` writes;
+// Links target/staticlib/libkusikhut.a of this repository, which `tools/library` writes;
 // KUSIKHUT_LIB names another folder.
 use std::{env, path::PathBuf};
 

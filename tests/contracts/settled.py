@@ -3,8 +3,9 @@
 
 A contract does so where it is an equation: its result, or the outcome that has the result as its answer, stands on the
 left of an equality, and so does what each `&mut` parameter holds at exit. Two results that such a contract allows
-coincide by the one law `settled` of ground. This looks at the text of crates/*/src; docs/SETTLED.md says what follows.
-Prints each function that is not settled so, and exits with 1 if there is one.
+coincide by the one law `settled` of crates/answers. This looks at the text of crates/*/src; docs/SETTLED.md says what follows.
+Prints each function that is not settled so, and exits with 1 if there is one; with `self-test` it exits with 1 if a
+contract that leaves something open is taken for settled, or one that does not for open.
 """
 import re
 import sys
@@ -31,14 +32,41 @@ def faults(head):
         name = re.escape(result.group(1))
         # an equation with itself settles nothing
         direct = re.search(rf"⌜\s*\(?{name}\s+≡ (?!{name}\b)", settled)
-        in_record = re.search(rf"record \{{[^}}]*answer = {name}[;\s}}]|shown {name} ", settled)
+        in_record = re.search(rf"record \{{[^}}]*answer = {name}[;\s}}]|(?:told|shown) {name} ", settled)
         if not (direct or in_record):
             found.append("its result stands in no equation")
     for lent in re.findall(r"(\w+): &(?:'\w+ )?mut ", signature):
         exit_value = rf"now \(«?{lent}»? \.exit\)"
-        if not re.search(rf"{exit_value}\s+≡ |memory = {exit_value}|shown \w+ [^≡]*{exit_value}[^≡]*≡ ", settled):
+        if not re.search(rf"{exit_value}\s+≡ |memory = {exit_value}|(?:told|shown) \w+ [^≡]*{exit_value}[^≡]*≡ ", settled):
             found.append(f"what `{lent}` holds at exit stands in no equation")
     return found
+
+
+LENT = "(s: &[u8], d: &mut [u8]) -> u8"
+OPEN = [
+    "(s: &[u8]) -> u8",
+    "(s: &[u8]) -> u8 ensures { λ r. ⌜ r ≡ r ⌝ }",
+    "(s: &[u8]) -> u8 ensures { λ r. ⌜ r ≤ meaning (now (s .entry)) ⌝ }",
+    "(s: &[u8]) -> u8 ensures { λ r. ⌜ told 0 (now (s .entry)) ≡ meaning ⌝ }",
+    LENT + " ensures { λ r. ⌜ r ≡ meaning (now (s .entry)) ⌝ }",
+    LENT + " ensures { λ r. ⌜ told r (now (s .entry)) ≡ meaning (now (d .exit)) ⌝ }",
+    LENT + " ensures { λ r. ⌜ record { answer = 0; memory = now (d .exit) } ≡ meaning ⌝ }",
+    LENT + " ensures { λ r. ⌜ record { answer = r; memory = now (d .entry) } ≡ meaning ⌝ }",
+]
+SETTLED = [
+    "(s: &[u8]) -> u8 ensures { λ r. ⌜ r ≡ meaning (now (s .entry)) ⌝ }",
+    "(v: &mut [f64; 3]) ensures { λ r. ⌜ now (v .exit) ≡ meaning ⌝ }",
+    LENT + " ensures { λ r. ⌜ record { answer = r; memory = now (d .exit) } ≡ meaning ⌝ }",
+    LENT + " ensures { λ r. ⌜ told r (now (d .exit)) ≡ meaning ⌝ }",
+]
+
+
+def self_test():
+    wrong = [f"taken for settled: {head}" for head in OPEN if not faults(head)]
+    wrong += [f"taken for open: {head}" for head in SETTLED if faults(head)]
+    for line in wrong:
+        print(line)
+    return 1 if wrong else 0
 
 
 def main():
@@ -60,4 +88,4 @@ def main():
     return 1 if open_ones or total == 0 else 0
 
 
-sys.exit(main())
+sys.exit(self_test() if sys.argv[1:] == ["self-test"] else main())

@@ -1,5 +1,5 @@
-// Lists the channels of a mode N band in hertz (document 01, "Mode N channels"). What an input names and which lines its
-// list has is proved of `channels::band_of` and `channels::line_at`; this program reads and prints.
+// Lists the channels of a mode N band in hertz (document 01, "Mode N channels"). What an input names and which lines
+// its list has is proved of `channels::band_of` and `channels::line_at`; this program reads and prints.
 
 use channels::Band;
 use channels::Line;

@@ -2,7 +2,7 @@
 --     letterOf b       the band that a byte names: capital A to D in ASCII
 --     bandOf s         the band that an input names: one letter, with at most one line feed (10) after it
 --     rowsOf b         the band's indices: the first, and how many there are
---     channelsUpTo     the lines of one index: channels 0 and up, in hertz
+--     channelsUpTo     the lines of one index: channels 0 and up, in hertz; a quarter of a kilohertz is 250 Hz
 --     linesFrom i n    the lines of the n indices from i on: index, then channel ascending
 --     linesOf b        the lines of a band, in the order in which they are listed
 --     lineAt b k       line k of them, from 0; End behind the last
@@ -12,11 +12,11 @@ use mathlib.Core.List.{List, [], _∷_, _++_}
 use Prim.Native.Nat.{ℕ, zero, suc, _*_}
 use lib.Dec.{eqb}
 use lib.ListN.{getD}
-use Rattle.channels.specs.declared.Band.{Band}
-use Rattle.channels.specs.declared.Band.the-variants.{A, B, C, D, NoSuch}
-use Rattle.channels.specs.declared.Rows.{Rows}
-use Rattle.channels.specs.declared.Line.{Line}
-use Rattle.channels.specs.declared.Line.the-variants.{Channel, End}
+use Rattle.channels.specs.declared.listing.Band.{Band}
+use Rattle.channels.specs.declared.listing.Band.the-variants.{A, B, C, D, NoSuch}
+use Rattle.channels.specs.declared.listing.Rows.{Rows}
+use Rattle.channels.specs.declared.listing.Line.{Line}
+use Rattle.channels.specs.declared.listing.Line.the-variants.{Channel, End}
 use Rattle.channels.specs.Table21.{channelsOf, quartersOf}
 
 abbrev pub letterOf : ℕ → Band

@@ -1,5 +1,5 @@
 -- Frequencies and channels of mode N (EN 13757-4:2019, 10.2, Table 21).
---     kHz w h            w + h / 100 kilohertz, as a count of quarters of a kilohertz, in which every number here is whole
+--     kHz w h            w + h / 100 kilohertz, as a count of quarters of a kilohertz: every number here is whole
 --     Entry              a line of the table: first centre, spacing, tolerance, number of channels
 --     table              its lines, index 1 first; `0 ≤ n ≤ 5` is six channels, `n = 0` is one
 --     entryOf i          the line of index i; all zeros where the table has none

@@ -1,4 +1,4 @@
-pub mod ReadingLaws
-pub mod ExampleLaws
+pub mod StepLaws
+pub mod WorkedExamples
 pub mod Walking
 pub mod Parts

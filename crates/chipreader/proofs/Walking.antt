@@ -1,5 +1,5 @@
--- The names of the program logic that the walks over a `ChipReader` write, passed on by one module, so that each walk imports them in
--- one line. Nothing is declared here.
+-- The names of the program logic that the walks over a `ChipReader` write, passed on by one module, so that each walk
+-- imports them in one line. Nothing is declared here.
 pub use mathlib.Core.Path.{_≡_, refl, ap, _∙_}
 pub use Prim.Native.Nat.{ℕ, _<_, _^_}
 pub use mathlib.Core.List.{List, [], _∷_}

@@ -1,19 +1,18 @@
-// A chip reader: it keeps the lent chips and its place in them, and takes one code word at a time (document 01, "Chips and
-// line codes", "Answer numbers"). The work is done by `start` and `step`, on a plain slice and a place.
+// A chip reader: it keeps the lent chips and its place in them, and takes one code word at a time (document 01, "Chips
+// and line codes", "Answer numbers"). The work is done by `start` and `step`, on a plain slice and a place.
 
+use answers::Refusal;
 use line::Code;
 use line::Word;
 ghost use mathlib.Core.Path.{_≡_};
 ghost use Rattle.line.specs.Codes.{codeOf};
-ghost use Rattle.chipreader.specs.Reading.{startOf, isRefused, stepOf, readerAt, readerAfter};
+ghost use Rattle.chipreader.specs.Steps.{startOf, isClosed, stepOf, readerAt, readerAfter};
 
 // What the last call answered.
 pub enum Answer {
     Ready,
     Accepted(u8),
-    Short,
-    BadWord,
-    OutOfRange,
+    Refused(Refusal),
 }
 
 // A place among the chips, and what was answered there.
@@ -31,16 +30,10 @@ pub struct ChipReader<'a> {
 pub fn start(chips: &[u8], at: usize) -> Place
     ensures { λ r. ⌜ r ≡ startOf (now (chips .entry)) at ⌝ }
 {
-    if 1024 < chips.len() {
+    if !chips::in_range(chips, at) {
         return Place {
             at: 0,
-            answer: Answer::OutOfRange,
-        };
-    }
-    if 8 * chips.len() < at {
-        return Place {
-            at: 0,
-            answer: Answer::OutOfRange,
+            answer: Answer::Refused(Refusal::OutOfRange),
         };
     }
     Place {
@@ -49,16 +42,14 @@ pub fn start(chips: &[u8], at: usize) -> Place
     }
 }
 
-// Whether a reader was refused when it was made.
-fn is_refused(answer: Answer) -> bool
-    ensures { λ r. ⌜ r ≡ isRefused answer ⌝ }
+// Whether a reader was refused when it was made: 10 is never answered afterwards.
+fn is_closed(answer: Answer) -> bool
+    ensures { λ r. ⌜ r ≡ isClosed answer ⌝ }
 {
     match answer {
         Answer::Ready => false,
         Answer::Accepted(_) => false,
-        Answer::Short => false,
-        Answer::BadWord => false,
-        Answer::OutOfRange => true,
+        Answer::Refused(r) => answers::number(r) == 10,
     }
 }
 
@@ -67,26 +58,21 @@ pub fn step(code: Code, chips: &[u8], place: Place) -> Place
     ensures { λ r. ⌜ r ≡ stepOf (codeOf code) (now (chips .entry)) place ⌝ }
 {
     let answer = place.answer;
-    if is_refused(answer) {
+    if is_closed(answer) {
         return place;
     }
     let at = place.at;
     match line::word_at(code, chips, at) {
-        Word::Accepted(x) => Place {
-            at: at + line::width(code),
-            answer: Answer::Accepted(x),
-        },
-        Word::Short => Place {
+        Word::Accepted(x) => {
+            let behind = at + line::width(code);
+            Place {
+                at: behind,
+                answer: Answer::Accepted(x),
+            }
+        }
+        Word::Refused(r) => Place {
             at,
-            answer: Answer::Short,
-        },
-        Word::BadWord => Place {
-            at,
-            answer: Answer::BadWord,
-        },
-        Word::OutOfRange => Place {
-            at,
-            answer: Answer::OutOfRange,
+            answer: Answer::Refused(r),
         },
     }
 }

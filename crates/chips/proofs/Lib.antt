@@ -1,2 +1,4 @@
 pub mod GatherLaws
 pub mod PackingLaws
+pub mod WindowLaws
+pub mod RangeLaws

@@ -18,7 +18,7 @@ use mathlib.Core.Bool.{Bool, true, false, cond}
 use mathlib.Core.Logic.{_⊎_, inl, inr, ⊎-elim}
 use mathlib.Core.List.{List, _++_, [], _∷_}
 use Prim.Native.Nat.{ℕ, zero, suc, _+_, _*_, _-_, _/_, _%_, _^_, _<_, _≤_}
-use native.Mathlib.Nat.{add-assoc, div-add-mod', zero-div, mod-lt, mul-add-div-right, mul-add-mod-self-right, div-eq-of-lt, not-suc-le-zero, le-of-suc-le-suc, eq-or-lt-of-le}
+use native.Mathlib.Nat.{add-assoc, zero-add, div-add-mod', zero-div, mod-lt, mul-add-div-right, mul-add-mod-self-right, div-eq-of-lt, not-suc-le-zero, le-of-suc-le-suc, eq-or-lt-of-le}
 use native.Mathlib.Omega.{arith}
 use borrow.Author.Tests.{lt-ltb, le-ltb, ltb-true, ltb-false}
 use lib.Arith.{digits-div, digits-mod}
@@ -30,7 +30,8 @@ use Rattle.chips.proofs.GatherLaws.{gather-add, gather-lt}
 use Rattle.chips.specs.Chips.{gather, chipAt, wordAt}
 use Rattle.chips.specs.Packing.{spread, upTo, tabulate, packed}
 
-pub gather-same : (f g : ℕ → ℕ) (at bt w : ℕ) → ((k : ℕ) → k < w → f (at + k) ≡ g (bt + k)) → gather f at w ≡ gather g bt w
+pub gather-same : (f g : ℕ → ℕ) (at bt w : ℕ) → ((k : ℕ) → k < w → f (at + k) ≡ g (bt + k))
+    → gather f at w ≡ gather g bt w
 unfolding gather
 gather-same f g at bt zero same = refl
 gather-same f g at bt (suc w) same =
@@ -38,11 +39,12 @@ gather-same f g at bt (suc w) same =
     let last : f (at + w) ≡ g (bt + w) = same w (omega arith) in
     rw (ih, last)
 
-pub gather-chip : (f : ℕ → ℕ) → ((k : ℕ) → f k < 2) → (at w k : ℕ) → k < w → gather f at w / 2 ^ (w - 1 - k) % 2 ≡ f (at + k)
+pub gather-chip : (f : ℕ → ℕ) → ((k : ℕ) → f k < 2) → (at w k : ℕ) → k < w
+    → gather f at w / 2 ^ (w - 1 - k) % 2 ≡ f (at + k)
 unfolding gather
 gather-chip f bit at w k h =
     let cut : w ≡ suc k + (w - 1 - k) = omega arith in
-    let e : gather f at w ≡ gather f at (suc k) * 2 ^ (w - 1 - k) + gather f (at + suc k) (w - 1 - k) = ap (gather f at) cut ∙ gather-add f at (suc k) (w - 1 - k) in
+    let e = ap (gather f at) cut ∙ gather-add f at (suc k) (w - 1 - k) in
     rw (e, high (gather f at (suc k)) (w - 1 - k) (gather-lt f bit (at + suc k) (w - 1 - k)))
     (omega (arith, bit (at + k)))
 
@@ -58,30 +60,27 @@ pub gather-rest : (f : ℕ → ℕ) → ((k : ℕ) → f k < 2) → (at a b : �
 gather-rest f bit at a b = rw (gather-add f at a b) (low (gather f at a) b (gather-lt f bit (at + a) b))
 
 -- the first j binary digits of x, of which there are w, make x / 2 ^ (w - j)
-digits : (x w j : ℕ) → x < 2 ^ w → j ≤ w → gather (λ k. x / 2 ^ (w - 1 - k) % 2) 0 j ≡ x / 2 ^ (w - j)
+gather-digits : (x w j : ℕ) → x < 2 ^ w → j ≤ w → gather (λ k. x / 2 ^ (w - 1 - k) % 2) 0 j ≡ x / 2 ^ (w - j)
 unfolding gather
-digits x w zero h le =
-    let e : w - 0 ≡ w = omega arith in
-    rw e (sym (div-eq-of-lt h))
-digits x w (suc j) h le =
-    let ih : gather (λ k. x / 2 ^ (w - 1 - k) % 2) 0 j ≡ x / 2 ^ (w - j) = digits x w j h (omega arith) in
+gather-digits x w zero h le = let e : w - 0 ≡ w = omega arith in rw e (sym (div-eq-of-lt h))
+gather-digits x w (suc j) h le =
     let up : w - 1 - j + 1 ≡ w - j = omega arith in
-    let half : x / 2 ^ (w - 1 - j) / 2 ^ 1 ≡ x / 2 ^ (w - j) = shr-shr x (w - 1 - j) 1 ∙ ap (λ (e : ℕ). x / 2 ^ e) up in
-    let here : 0 + j ≡ j = omega arith in
+    let half = shr-shr x (w - 1 - j) 1 ∙ ap (λ (e : ℕ). x / 2 ^ e) up in
     let there : w - suc j ≡ w - 1 - j = omega arith in
-    rw (ih, here, there) (omega arith)
+    rw (gather-digits x w j h (omega arith), zero-add, there) (omega arith)
 
 pub gather-spread : (v : ℕ → ℕ) (w i : ℕ) → v i < 2 ^ w → gather (spread w v) (i * w) w ≡ v i
 gather-spread v w i h =
     let one : w - w ≡ 0 = omega arith in
     gather-same (spread w v) (λ k. v i / 2 ^ (w - 1 - k) % 2) (i * w) 0 w
     (λ k lt. let here : 0 + k ≡ k = omega arith in rw (digits-div i lt, digits-mod i lt, here))
-    ∙ (digits (v i) w w h (omega arith) ∙ rw one (omega arith))
+    ∙ (gather-digits (v i) w w h (omega arith) ∙ rw one (omega arith))
 
 pub spread-shift : (w : ℕ) (v : ℕ → ℕ) (a k : ℕ) → 0 < w → spread w v (a * w + k) ≡ spread w (λ i. v (a + i)) k
 spread-shift w v a k pos = rw (mul-add-div-right pos a k, mul-add-mod-self-right a w k)
 
-pub spread-gather : (f : ℕ → ℕ) → ((k : ℕ) → f k < 2) → (at w k : ℕ) → 0 < w → spread w (λ i. gather f (at + i * w) w) k ≡ f (at + k)
+pub spread-gather : (f : ℕ → ℕ) → ((k : ℕ) → f k < 2) → (at w k : ℕ) → 0 < w
+    → spread w (λ i. gather f (at + i * w) w) k ≡ f (at + k)
 spread-gather f bit at w k pos =
     let whole : at + k / w * w + k % w ≡ at + k = rw (add-assoc, div-add-mod') in
     gather-chip f bit (at + k / w * w) w (k % w) (mod-lt k pos) ∙ ap f whole
@@ -147,7 +146,9 @@ module _ (t : ℕ) (f : ℕ → ℕ) (bit : (k : ℕ) → f k < 2) where
         (gather-chip (upTo t f) (upTo-lt t f bit) (8 * (k / 8)) 8 (k % 8) (omega arith) ∙ ap (upTo t f) place)
 
     behind : (t + 7) / 8 ≤ k / 8 → chipAt (packed t f) k ≡ upTo t f k
-    behind le = rw (List·getD-eq-default (packed t f) 0 {n = k / 8} (rw (length-packed t f) le), upTo-behind t f k (omega arith), zero-div)
+    behind le =
+        let none = List·getD-eq-default (packed t f) 0 {n = k / 8} (rw (length-packed t f) le) in
+        rw (none, upTo-behind t f k (omega arith), zero-div)
 
   pub wordAt-packed : (at w : ℕ) → at + w ≤ t → wordAt (packed t f) at w ≡ gather f at w
   wordAt-packed at w h = gather-same (chipAt (packed t f)) f at at w
@@ -168,7 +169,8 @@ packed-whole n f =
     rw size (tabulate-same (λ j. gather (upTo (8 * n) f) (8 * j) 8) (λ j. gather f (8 * j) 8) n
     (λ j h. gather-same (upTo (8 * n) f) f (8 * j) (8 * j) 8 (λ k lt. upTo-within (8 * n) f (8 * j + k) (omega arith))))
 
-pub chipAt-middle : (pre t post : List ℕ) (k : ℕ) → k < 8 * length t → chipAt (pre ++ (t ++ post)) (8 * length pre + k) ≡ chipAt t k
+pub chipAt-middle : (pre t post : List ℕ) (k : ℕ) → k < 8 * length t
+    → chipAt (pre ++ (t ++ post)) (8 * length pre + k) ≡ chipAt t k
 chipAt-middle pre t post k h =
     let byte : (8 * length pre + k) / 8 ≡ length pre + k / 8 = omega arith in
     let bit : (8 * length pre + k) % 8 ≡ k % 8 = omega arith in

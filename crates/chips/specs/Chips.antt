@@ -4,9 +4,12 @@
 --     wordAt s at w    the same for the chips of the bytes s
 --     chipCount s      how many chips the bytes s hold: all eight of each byte, there is no other count
 --     roomLimit        a received chip buffer has at most so many bytes (house)
+--     inRange s at     document 01's refusal 10 for chips: no longer than that, and the place not behind the last chip
 -- A place past the end holds 0; every rule above tests the end before it looks.
+use mathlib.Core.Bool.{Bool, false, cond}
 use mathlib.Core.List.{List}
 use Prim.Native.Nat.{ℕ, zero, suc, _+_, _*_, _-_, _/_, _%_, _^_}
+use lib.Dec.{leb}
 use lib.ListN.{length, getD}
 
 abbrev pub chipAt : List ℕ → ℕ → ℕ
@@ -24,3 +27,6 @@ chipCount s = 8 * length s
 
 abbrev pub roomLimit : ℕ
 roomLimit = 1024
+
+abbrev pub inRange : List ℕ → ℕ → Bool
+inRange s at = cond (leb (length s) roomLimit) (leb at (chipCount s)) false

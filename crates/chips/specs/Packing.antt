@@ -1,5 +1,5 @@
 -- Chips written into bytes (document 01, "Chips and line codes": first chip highest, unused chips of the last byte 0).
---     spread w v k    chip k of the numbers v 0, v 1, v 2, .. written one after the other, w chips each, first chip highest
+--     spread w v k    chip k of the numbers v 0, v 1, v 2, .. written one after the other, w chips each, highest first
 --     upTo t f k      chip k of the first t chips that f gives; behind them every chip is 0
 --     tabulate f n    the list f 0, f 1, .. , f (n - 1)
 --     packed t f      the bytes that hold the first t chips that f gives, as few as will do

@@ -18,7 +18,7 @@ use lib.ListN.{length, drop, getD, replicate, length-replicate}
 use lib.Seq.{drop-cons}
 use Rattle.ground.proofs.XorLaws.{xor-swap, xor-shl, xor-last, xor-cancel}
 use Rattle.crc.specs.Check.{bitIn, bitsIn, byteIn, regOf, checkOf}
-use Rattle.crc.specs.CheckUpdate.{shareOf}
+use Rattle.crc.specs.CheckUpdate.{shareOf, updatedCheck}
 
 -- ---- the code's test of the highest bit against the definition, which has none
 
@@ -40,7 +40,8 @@ pub bitsIn-left : (n k r : ℕ) → k < n → bitsIn (n - (k + 1)) (bitIn r) ≡
 unfolding bitsIn
 bitsIn-left n k r h = let e : n - k ≡ suc (n - (k + 1)) = omega arith in rw e
 
-pub regOf-drop : (s : List ℕ) (i r : ℕ) → i < length s → regOf (byteIn r (getD s i 0)) (drop (i + 1) s) ≡ regOf r (drop i s)
+pub regOf-drop :
+    (s : List ℕ) (i r : ℕ) → i < length s → regOf (byteIn r (getD s i 0)) (drop (i + 1) s) ≡ regOf r (drop i s)
 unfolding regOf
 regOf-drop s i r h = rw (add-one i, drop-cons s i 0 h)
 
@@ -52,12 +53,12 @@ regOf-append r (x ∷ xs) bs = regOf-append (byteIn r x) xs bs
 -- ---- linearity
 
 -- a bit times the polynomial
-pick-xor : (t u : ℕ) → t < 2 → u < 2 → bitXor t u * 0x3D65 ≡ bitXor (t * 0x3D65) (u * 0x3D65)
-pick-xor zero u ht hu = refl
-pick-xor (suc zero) zero ht hu = refl
-pick-xor (suc zero) (suc zero) ht hu = refl
-pick-xor (suc zero) (suc (suc u)) ht hu = absurd (omega arith)
-pick-xor (suc (suc t)) u ht hu = absurd (omega arith)
+polynomial-xor : (t u : ℕ) → t < 2 → u < 2 → bitXor t u * 0x3D65 ≡ bitXor (t * 0x3D65) (u * 0x3D65)
+polynomial-xor zero u ht hu = refl
+polynomial-xor (suc zero) zero ht hu = refl
+polynomial-xor (suc zero) (suc zero) ht hu = refl
+polynomial-xor (suc zero) (suc (suc u)) ht hu = absurd (omega arith)
+polynomial-xor (suc (suc t)) u ht hu = absurd (omega arith)
 
 shifted-xor : (r s : ℕ) → bitXor r s * 2 % 65536 ≡ bitXor (r * 2 % 65536) (s * 2 % 65536)
 shifted-xor r s = ap (λ (x : ℕ). x % 65536) (xor-shl r s 1) ∙ xor-mod (r * 2) (s * 2) 16
@@ -66,7 +67,7 @@ top-xor : (r s : ℕ) → bitXor r s / 32768 % 2 * 0x3D65 ≡ bitXor (r / 32768 
 top-xor r s =
     ap (λ (x : ℕ). x % 2 * 0x3D65) (xor-shr r s 15)
     ∙ ap (λ (x : ℕ). x * 0x3D65) (xor-mod (r / 32768) (s / 32768) 1)
-    ∙ pick-xor (r / 32768 % 2) (s / 32768 % 2) (omega arith) (omega arith)
+    ∙ polynomial-xor (r / 32768 % 2) (s / 32768 % 2) (omega arith) (omega arith)
 
 pub bitIn-xor : (r s : ℕ) → bitIn (bitXor r s) ≡ bitXor (bitIn r) (bitIn s)
 unfolding bitIn
@@ -113,7 +114,8 @@ xors-zeros [] = refl
 xors-zeros (x ∷ xs) = ap₂ {C = List ℕ} (λ (y : ℕ) (ys : List ℕ). y ∷ ys) (xor-zero-r x) (xors-zeros xs)
 
 -- what was added to the register earlier goes through the later bytes as through zeros
-pub regOf-added : (r s : ℕ) (xs : List ℕ) → regOf (bitXor r s) xs ≡ bitXor (regOf r xs) (regOf s (replicate (length xs) 0))
+pub regOf-added :
+    (r s : ℕ) (xs : List ℕ) → regOf (bitXor r s) xs ≡ bitXor (regOf r xs) (regOf s (replicate (length xs) 0))
 regOf-added r s xs =
     ap (regOf (bitXor r s)) (sym (xors-zeros xs))
     ∙ regOf-xor r s xs (replicate (length xs) 0) (sym (length-replicate (length xs) 0))
@@ -126,11 +128,12 @@ pub regOf-changed : (r old new : ℕ) (pre post : List ℕ)
     → regOf r (pre ++ (new ∷ post)) ≡ bitXor (regOf r (pre ++ (old ∷ post))) (shareOf (bitXor old new) (length post))
 unfolding regOf shareOf
 regOf-changed r old new [] post =
-    ap (λ (v : ℕ). regOf v post) (byteIn-changed r old new) ∙ regOf-added (byteIn r old) (byteIn 0 (bitXor old new)) post
+    ap (λ (v : ℕ). regOf v post) (byteIn-changed r old new)
+    ∙ regOf-added (byteIn r old) (byteIn 0 (bitXor old new)) post
 regOf-changed r old new (b ∷ pre) post = regOf-changed (byteIn r b) old new pre post
 
 pub checkOf-changed : (old new : ℕ) (pre post : List ℕ)
-    → checkOf (pre ++ (new ∷ post)) ≡ bitXor (checkOf (pre ++ (old ∷ post))) (shareOf (bitXor old new) (length post))
+    → checkOf (pre ++ (new ∷ post)) ≡ updatedCheck (checkOf (pre ++ (old ∷ post))) old new (length post)
 unfolding checkOf
 checkOf-changed old new pre post =
     ap (λ (v : ℕ). bitXor v 0xFFFF) (regOf-changed 0 old new pre post)

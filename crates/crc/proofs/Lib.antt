@@ -1,5 +1,5 @@
 pub mod CheckLaws
 pub mod ShareLaws
-pub mod SpanLaws
+pub mod BackwardLaws
 pub mod UpdateLaws
 pub mod WorkedExamples

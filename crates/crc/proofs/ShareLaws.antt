@@ -41,12 +41,12 @@ byteIn-bitIn r = rw (xor-zero-r (bitIn r), xor-zero-r r) (bitsIn-bitIn 8 r)
 regOf-zeros-bitIn : (k r : ℕ) → regOf (bitIn r) (replicate k 0) ≡ bitIn (regOf r (replicate k 0))
 unfolding regOf
 regOf-zeros-bitIn zero r = refl
-regOf-zeros-bitIn (suc k) r = ap (λ (v : ℕ). regOf v (replicate k 0)) (byteIn-bitIn r) ∙ regOf-zeros-bitIn k (byteIn r 0)
+regOf-zeros-bitIn (suc k) r =
+    ap (λ (v : ℕ). regOf v (replicate k 0)) (byteIn-bitIn r) ∙ regOf-zeros-bitIn k (byteIn r 0)
 
-regOf-zeros-xor : (k r s : ℕ) → regOf (bitXor r s) (replicate k 0) ≡ bitXor (regOf r (replicate k 0)) (regOf s (replicate k 0))
-regOf-zeros-xor k r s =
-    regOf-added r s (replicate k 0)
-    ∙ ap (λ (n : ℕ). bitXor (regOf r (replicate k 0)) (regOf s (replicate n 0))) (length-replicate k 0)
+regOf-zeros-xor : (k r s : ℕ)
+    → regOf (bitXor r s) (replicate k 0) ≡ bitXor (regOf r (replicate k 0)) (regOf s (replicate k 0))
+regOf-zeros-xor k r s = regOf-added r s (replicate k 0) ∙ rw (length-replicate {A = ℕ} k 0)
 
 pub shareOf-zero : (k : ℕ) → shareOf 0 k ≡ 0
 unfolding shareOf regOf byteIn bitsIn bitIn

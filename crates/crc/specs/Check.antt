@@ -1,5 +1,5 @@
--- The block check (EN 13757-4:2019, 12.5.7; bit order: C.2.2): x^16+x^13+x^12+x^11+x^10+x^8+x^6+x^5+x^2+1, register 0 at the start,
--- highest bit of a byte first, the result complemented.
+-- The block check (EN 13757-4:2019, 12.5.7; bit order: C.2.2): x^16+x^13+x^12+x^11+x^10+x^8+x^6+x^5+x^2+1, register 0
+-- at the start, highest bit of a byte first, the result complemented.
 --     bitIn r       the register after one bit: shifted left, the polynomial 3D65h added if a one fell out at the top
 --     bitsIn n r    n such steps
 --     byteIn r b    the byte b is added to the register's upper half, then eight steps

@@ -3,6 +3,7 @@ ghost use mathlib.Core.Path.{_≡_};
 ghost use Prim.Native.Nat.{_≤_};
 ghost use Rattle.crc.specs.Check.{bitIn, byteIn, checkOf};
 ghost use Rattle.crc.specs.CheckUpdate.{updating, shareOf, farthest, Mends};
+use answers::Refusal;
 
 // x^13+x^12+x^11+x^10+x^8+x^6+x^5+x^2+1: the polynomial of 12.5.7 without its highest term.
 const POLYNOMIAL: u16 = 0x3D65;
@@ -26,7 +27,7 @@ const SIXTEENS: [u16; 8] = [
 // What the update of a check answers: the new check, or that the distance is too large.
 pub enum Updated {
     Accepted(u16),
-    OutOfRange,
+    Refused(Refusal),
 }
 
 // The register after one bit.
@@ -80,7 +81,8 @@ fn share_of_one(distance: usize) -> u16
     reg
 }
 
-// What any byte `x` there adds: bit by bit from the highest, one step for the place of a bit, the share of 01 for a one.
+// The share of any byte, by Horner's rule: a register step for each bit from the highest, plus the share of 01 where
+// the bit is one.
 fn share(x: u8, distance: usize) -> u16
     requires { ⌜ distance ≤ farthest ⌝ }
     ensures { λ r. ⌜ r ≡ shareOf x distance ⌝ }
@@ -102,7 +104,7 @@ pub fn update(old_check: u16, old: u8, new: u8, distance: usize) -> Updated
     ensures mends { λ r. ⌜ (distance ≤ farthest → Mends «old_check» old new distance r) ⌝ }
 {
     if FARTHEST < distance {
-        return Updated::OutOfRange;
+        return Updated::Refused(Refusal::OutOfRange);
     }
     Updated::Accepted(old_check ^ share(old ^ new, distance))
 }

@@ -1,168 +1,171 @@
--- That each call which is lent memory leaves it alone where it refuses, taken apart by the tests of its definition.
---     Kept number d o    of one outcome: it is accepted, or the lent memory d is what it was
---     ..-kept            the definitions of the calls, one after the other
-use mathlib.Core.Path.{_≡_, _∙_, refl}
-use mathlib.Core.Bool.{Bool, true, false, cond}
-use mathlib.Core.List.{List, [], _∷_, _++_}
-use Prim.Native.Nat.{ℕ, _+_}
-use lib.Dec.{ltb}
-use lib.ListN.{length}
-use Rattle.ground.specs.Outcome.{Outcome}
-use Rattle.chips.specs.Chips.{chipCount, roomLimit}
-use Rattle.line.specs.Codes.{LineCode, chipsIn, wordsIn}
-use Rattle.line.specs.Decoding as decoding
-use Rattle.line.specs.Encoding as encoding
-use Rattle.frame.specs.Reads.{readingOf, takenOut}
-use Rattle.frame.specs.Writes.{writingOf}
-use Rattle.frame.specs.Changes.{changingOf, setIn}
-use Rattle.frame.specs.Judging.{judgeOf}
-use Rattle.frame.specs.Formats.{formOf, within, frameSize}
-use Rattle.frame.specs.Frames.{frameOf}
-use Rattle.frame.specs.declared.Format.{Format}
-use Rattle.frame.specs.declared.Judged.{Judged}
-use Rattle.frame.specs.Numbers.{numberOfReading, numberOfWritten, numberOfChanged}
+-- Which refusals the calls of line, sync, crc and filter can give, and that a refusal leaves lent memory alone
+-- (document 01, "Answer numbers"): their definitions, taken apart by their tests. The calls of frame, radio and header
+-- that are lent memory are shown so in their crates.
+--     Keeps refused ns a      an answer of a call that is lent nothing, seen as one that leaves any memory alone
+--     refuses-only            its refusals have one of the numbers ns
+--     decode-harmless, encode-harmless    line: 10, 1, 6, 4; 4
+--     word-only               line, one word: 10, 1, 6
+--     search-only, tail-only  sync: 10, 7, 14; 10, 1, 8
+--     update-only             crc: 10
+--     size-only, judge-only   frame, by its length byte: 2; its bytes: 1, 2, 3
+--     header-only             header: 12, 11
+--     filter-only             filter: 10, 5
+use mathlib.Core.List.{List, [], _∷_}
+use mathlib.Core.Path.{_≡_, refl}
+use Prim.Native.Nat.{ℕ, _+_, _/_, _^_, min}
+use lib.Dec.{ltb, leb, eqb}
+use lib.ListN.{length, take}
+use Rattle.answers.specs.declared.Refusal.{Refusal}
+use Rattle.answers.specs.declared.Written.{Written}
+use Rattle.answers.specs.Harmless.{among, Harmless}
+use Rattle.answers.specs.Outcome.{Outcome}
+use Rattle.answers.proofs.KeptLaws.{Kept, kept-cond, kept-answer-cond, harmless, written-kept, written-harmless}
+use Rattle.chips.specs.Chips.{chipCount, inRange, wordAt}
+use Rattle.line.specs.declared.decoding.Decoded.{Decoded}
+use Rattle.line.specs.declared.codes.Value.{Value}
+use Rattle.line.specs.declared.words.Word.{Word}
+use Rattle.line.specs.Codes.{LineCode, wordValue, chipsIn, wordsIn}
+use Rattle.line.specs.Decoding.{valueAt, goodRun, decoded}
+use Rattle.line.specs.Encoding.{encoded, encodedSize}
+use Rattle.line.specs.OneWord.{wordFor, wordRead}
 use Rattle.sync.specs.declared.Kind.{Kind}
-use Rattle.sync.specs.declared.Kind.the-variants.{ManchesterWithA}
 use Rattle.sync.specs.declared.Sync.{Sync}
 use Rattle.sync.specs.declared.Tail.{Tail}
-use Rattle.sync.specs.Kinds.{leadOf}
-use Rattle.sync.specs.SyncSearch.{searchOf, inRange}
-use Rattle.sync.specs.Tails.{tailOf}
-use Rattle.radio.specs.declared.Reception.{Reception}
-use Rattle.radio.specs.Kinds.{lineOf, formatOf}
-use Rattle.radio.specs.Receiving as receiving
-use Rattle.radio.specs.Sending as sending
-use Rattle.frame.specs.declared.FrameSize.{FrameSize}
-use Rattle.frame.specs.declared.Reading.{Reading}
-use Rattle.frame.specs.Formats.{sizeFor}
-use Rattle.header.specs.declared.Header.{Header}
-use Rattle.header.specs.Layout.{lengthOf}
-use Rattle.header.specs.Writing as header-writing
+use Rattle.sync.specs.SyncSearch.{positions, passed, standsAt, answerAfter, searchFor, searchOf, syncWord, syncWidth}
+use Rattle.sync.specs.Tails.{kindFor, tailOf}
+use Rattle.crc.specs.declared.Updated.{Updated}
+use Rattle.crc.specs.CheckUpdate.{farthest, updating}
+use Rattle.frame.specs.declared.Format.{Format}
+use Rattle.frame.specs.declared.Frame.{Frame}
+use Rattle.frame.specs.Formats.{formOf, sizeFor}
+use Rattle.frame.specs.Judging.{judgeOf}
+use Rattle.frame.proofs.RefusalLaws.{accepted-kept, judgeOf-kept}
+use Rattle.address.specs.Names.{nameOf}
+use Rattle.header.specs.declared.reading.HeaderReading.{HeaderReading}
+use Rattle.header.specs.HeaderReads.{headerReadingOf}
+use Rattle.header.proofs.HeaderRefusalLaws.{header-read-kept}
+use Rattle.filter.specs.declared.Verdict.{Verdict}
+use Rattle.filter.specs.Listed.{entryLimit, listed, verdictOf}
+use Rattle.demands.specs.RefusesOnly.{RefusesOnly}
 
--- of one outcome: it is accepted, or the memory is d still
-pub record Kept {A : Type 0} (number : A → ℕ) (d : List ℕ) (o : Outcome A) : Type 0 where
-  pub keeps : (number (o .answer) ≡ 0 → ⊥) → o .memory ≡ d
+abbrev pub Keeps : {A : Type 0} → (Refusal → A) → List ℕ → A → Type 0
+Keeps refused ns a = (d : List ℕ) → Kept refused ns d (record { answer = a; memory = d })
 
-module _ {A : Type 0} {number : A → ℕ} {d : List ℕ} where
-  either : (b : Bool) {x y : Outcome A} → Kept number d x → Kept number d y → Kept number d (cond b x y)
-  either true p q = p
-  either false p q = q
+pub refuses-only :
+    {A : Type 0} {refused : Refusal → A} {ns : List ℕ} {a : A}
+    → ((p q : Refusal) → refused p ≡ refused q → p ≡ q) → Keeps refused ns a → RefusesOnly refused ns a
+refuses-only same kept r e = harmless same kept [] r e .1
 
-  stays : {a : A} → Kept number d (record { answer = a; memory = d })
-  stays = record { keeps = λ refused. refl }
+decoded-kept :
+    (κ : LineCode) (s : List ℕ) (start n : ℕ) (d : List ℕ)
+    → Kept Decoded.Refused (10 ∷ 1 ∷ 6 ∷ 4 ∷ []) d (decoded κ s start n d)
+unfolding decoded among
+decoded-kept κ s start n d =
+    kept-cond (inRange s start)
+    (kept-cond (ltb (chipCount s) (start + chipsIn κ n)) (Kept.refuses refl)
+    (kept-cond (ltb (goodRun (valueAt κ s start) (wordsIn κ n)) (wordsIn κ n)) (Kept.refuses refl)
+    (kept-cond (ltb (length d) n) (Kept.refuses refl) (Kept.accepts Decoded.Accepted (λ r e. cc)))))
+    (Kept.refuses refl)
 
-  accepts : {a : A} {m : List ℕ} → number a ≡ 0 → Kept number d (record { answer = a; memory = m })
-  accepts taken = record { keeps = λ refused. absurd (refused taken) }
+encoded-kept : (κ : LineCode) (s d : List ℕ) → Kept Written.Refused (4 ∷ []) d (encoded κ s d)
+unfolding encoded among
+encoded-kept κ s d = kept-cond (ltb (length d) (encodedSize κ (length s))) (Kept.refuses refl) written-kept
 
-pub write-kept : (f : Format) (c d : List ℕ) → Kept numberOfWritten d (writingOf f c d)
-unfolding writingOf
-write-kept f c d =
-    either (within (formOf f .shortest) (formOf f .longest) (length c))
-    (either (ltb (length d) (frameSize f (length c))) stays (accepts refl))
-    stays
+wordFor-keeps : (v : Value) → Keeps Word.Refused (10 ∷ 1 ∷ 6 ∷ []) (wordFor v)
+unfolding among
+wordFor-keeps (Value.Is x) d = Kept.accepts (Word.Accepted x) (λ r e. cc)
+wordFor-keeps Value.NoWord d = Kept.refuses refl
 
-taken-kept : (f : Format) (s d : List ℕ) (j : Judged) → Kept numberOfReading d (takenOut f s d j)
-unfolding takenOut
-taken-kept f s d (Judged.Accepted z n) = either (ltb (length d) n) stays (accepts refl)
-taken-kept f s d Judged.Short = stays
-taken-kept f s d Judged.BadLength = stays
-taken-kept f s d (Judged.WrongCheck b) = stays
+wordRead-keeps : (κ : LineCode) (s : List ℕ) (at : ℕ) → Keeps Word.Refused (10 ∷ 1 ∷ 6 ∷ []) (wordRead κ s at)
+unfolding wordRead among
+wordRead-keeps κ s at d =
+    kept-answer-cond (inRange s at)
+    (kept-answer-cond (ltb (chipCount s) (at + κ .chips)) (Kept.refuses refl)
+    (wordFor-keeps (wordValue κ (wordAt s at (κ .chips))) d))
+    (Kept.refuses refl)
 
-set-kept : (f : Format) (s : List ℕ) (k b : ℕ) (j : Judged) → Kept numberOfChanged s (setIn f s k b j)
-unfolding setIn
-set-kept f s k b (Judged.Accepted z n) = either (ltb k n) (accepts refl) stays
-set-kept f s k b Judged.Short = stays
-set-kept f s k b Judged.BadLength = stays
-set-kept f s k b (Judged.WrongCheck w) = stays
+answerAfter-keeps : (start a p i : ℕ) → Keeps Sync.Refused (10 ∷ 7 ∷ 14 ∷ []) (answerAfter start a p i)
+unfolding among
+answerAfter-keeps start a p i d =
+    kept-answer-cond (ltb i (min a p)) (Kept.accepts (Sync.Found (start + i) (i + 1)) (λ r e. cc))
+    (kept-answer-cond (leb p a) (Kept.refuses refl) (Kept.refuses refl))
 
-pub decode-kept : (κ : LineCode) (s : List ℕ) (start n : ℕ) (d : List ℕ) → Kept decoding.numberOf d (decoding.decoded κ s start n d)
-unfolding decoding.decoded
-decode-kept κ s start n d =
-    either (ltb roomLimit (length s)) stays
-    (either (ltb (chipCount s) start) stays
-    (either (ltb (chipCount s) (start + chipsIn κ n)) stays
-    (either (ltb (decoding.goodRun (decoding.valueAt κ s start) (wordsIn κ n)) (wordsIn κ n)) stays
-    (either (ltb (length d) n) stays (accepts refl)))))
+searchFor-keeps :
+    (v w : ℕ) (s : List ℕ) (start a : ℕ) → Keeps Sync.Refused (10 ∷ 7 ∷ 14 ∷ []) (searchFor v w s start a)
+unfolding searchFor among
+searchFor-keeps v w s start a d =
+    let p = positions w s start in
+    kept-answer-cond (inRange s start)
+    (answerAfter-keeps start a p (passed (standsAt v w s) start (min a p)) d)
+    (Kept.refuses refl)
 
-pub encode-kept : (κ : LineCode) (s d : List ℕ) → Kept encoding.numberOf d (encoding.encoded κ s d)
-unfolding encoding.encoded
-encode-kept κ s d = either (ltb (length d) (encoding.sizeFor κ (length s))) stays (accepts refl)
+begins-kept :
+    {k : Kind} {ns d m : List ℕ} → Kept Tail.Refused ns d (record { answer = Tail.Begins k; memory = m })
+begins-kept {k} = Kept.accepts (Tail.Begins k) (λ r e. cc)
 
-pub read-kept : (f : Format) (s d : List ℕ) → Kept numberOfReading d (readingOf f s d)
-unfolding readingOf
-read-kept f s d = taken-kept f s d (judgeOf f s)
+kindFor-keeps : (k t : ℕ) → Keeps Tail.Refused (10 ∷ 1 ∷ 8 ∷ []) (kindFor k t)
+unfolding among
+kindFor-keeps k t d =
+    kept-answer-cond (eqb t 0x54CD) begins-kept
+    (kept-answer-cond (eqb t 0x543D) begins-kept
+    (kept-answer-cond (eqb (t / 2 ^ 10) 0b010101) (Kept.refuses refl) begins-kept))
 
-pub change-kept : (f : Format) (s : List ℕ) (k b : ℕ) → Kept numberOfChanged s (changingOf f s k b)
-unfolding changingOf
-change-kept f s k b = set-kept f s k b (judgeOf f s)
+tailOf-keeps : (s : List ℕ) (k : ℕ) → Keeps Tail.Refused (10 ∷ 1 ∷ 8 ∷ []) (tailOf s k)
+unfolding tailOf among
+tailOf-keeps s k d =
+    kept-answer-cond (inRange s k)
+    (kept-answer-cond (ltb (chipCount s) (k + 32)) (Kept.refuses refl) (kindFor-keeps k (wordAt s (k + 16) 16) d))
+    (Kept.refuses refl)
 
-pub header-kept : (h : Header) (d : List ℕ) → Kept header-writing.numberOf d (header-writing.writingOf h d)
-header-kept h d = either (ltb (length d) (lengthOf (h .kind))) stays (accepts refl)
+sizeFor-keeps : (f : Format) (l : ℕ) → Keeps Frame.Refused (2 ∷ []) (sizeFor f l)
+unfolding among
+sizeFor-keeps f l d = kept-answer-cond (formOf f .allowed l) accepted-kept (Kept.refuses refl)
 
-put-kept : (k : Kind) (p d : List ℕ) → Kept sending.numberOf d (sending.putting k p d)
-unfolding sending.putting
-put-kept k p d = either (ltb (length d) (sending.airSize k (length p))) stays (accepts refl)
+updating-keeps : (c old new k : ℕ) → Keeps Updated.Refused (10 ∷ []) (updating c old new k)
+unfolding among
+updating-keeps c old new k d =
+    kept-answer-cond (leb k farthest) (Kept.accepts (Updated.Accepted _) (λ r e. cc)) (Kept.refuses refl)
 
-pub send-kept : (k : Kind) (c d : List ℕ) → Kept sending.numberOf d (sending.sendingOf k c d)
-unfolding sending.sendingOf
-send-kept k c d =
-    either (within (formOf (formatOf k) .shortest) (formOf (formatOf k) .longest) (length c))
-    (put-kept k (frameOf (formatOf k) c) d)
-    stays
+verdictOf-keeps :
+    (es : List (List ℕ)) (n : ℕ) (s : List ℕ) → Keeps Verdict.Refused (10 ∷ 5 ∷ []) (verdictOf es n s)
+unfolding among
+verdictOf-keeps es n s d =
+    kept-answer-cond (ltb entryLimit n) (Kept.refuses refl)
+    (kept-answer-cond (ltb (length s) 9) (Kept.refuses refl)
+    (kept-answer-cond (listed (nameOf s) (take n es))
+    (Kept.accepts Verdict.Wanted (λ r e. cc))
+    (Kept.accepts Verdict.Unwanted (λ r e. cc))))
 
--- what the frame's bytes are read to is told on under its own number, so a refusal stays one
-told-number : (k : Kind) (place t : ℕ) (a : Reading) → receiving.numberOf (receiving.answerOf k place t a) ≡ numberOfReading a
-told-number k place t (Reading.Accepted z n) = refl
-told-number k place t Reading.Short = refl
-told-number k place t Reading.BadLength = refl
-told-number k place t (Reading.WrongCheck b) = refl
-told-number k place t Reading.NoRoom = refl
+pub decode-harmless :
+    (κ : LineCode) (s : List ℕ) (start n : ℕ)
+    → Harmless Decoded.Refused (10 ∷ 1 ∷ 6 ∷ 4 ∷ []) (decoded κ s start n)
+decode-harmless κ s start n = harmless (λ p q e. cc) (decoded-kept κ s start n)
 
-told-kept
-    : (k : Kind) (place t : ℕ) (d : List ℕ) (o : Outcome Reading)
-    → Kept numberOfReading d o → Kept receiving.numberOf d (receiving.toldBy k place t o)
-told-kept k place t d o p =
-    record { keeps = λ refused. p .keeps (λ taken. refused (told-number k place t (o .answer) ∙ taken)) }
+pub encode-harmless : (κ : LineCode) (s : List ℕ) → Harmless Written.Refused (4 ∷ []) (encoded κ s)
+encode-harmless κ s = written-harmless (encoded-kept κ s)
 
-coded-kept
-    : (κ : LineCode) (s : List ℕ) (at n : ℕ) (d : List ℕ) (next : Outcome Reception)
-    → Kept receiving.numberOf d next → Kept receiving.numberOf d (receiving.coded κ s at n d next)
-unfolding receiving.coded
-coded-kept κ s at n d next p =
-    either (ltb (chipCount s) (at + chipsIn κ n)) stays
-    (either (ltb (decoding.goodRun (decoding.valueAt κ s at) (wordsIn κ n)) (wordsIn κ n)) stays p)
+pub word-only : (κ : LineCode) (s : List ℕ) (at : ℕ) → RefusesOnly Word.Refused (10 ∷ 1 ∷ 6 ∷ []) (wordRead κ s at)
+word-only κ s at = refuses-only (λ p q e. cc) (wordRead-keeps κ s at)
 
-size-kept : (k : Kind) (place t : ℕ) (s d : List ℕ) (z : FrameSize) → Kept receiving.numberOf d (receiving.bySize k place t s d z)
-unfolding receiving.bySize
-size-kept k place t s d FrameSize.BadLength = stays
-size-kept k place t s d (FrameSize.Bytes z n) =
-    coded-kept (lineOf k) s (place + leadOf k) z d _
-    (told-kept k place t d _ (read-kept (formatOf k) (decoding.decoding (lineOf k) s (place + leadOf k) z) d))
+pub search-only :
+    (s : List ℕ) (start a : ℕ) → RefusesOnly Sync.Refused (10 ∷ 7 ∷ 14 ∷ []) (searchOf s start a)
+search-only s start a = refuses-only (λ p q e. cc) (searchFor-keeps syncWord syncWidth s start a)
 
-frame-kept : (k : Kind) (place t : ℕ) (s d : List ℕ) → Kept receiving.numberOf d (receiving.frameAfter k place t s d)
-unfolding receiving.frameAfter
-frame-kept k place t s d =
-    coded-kept (lineOf k) s (place + leadOf k) 1 d _
-    (size-kept k place t s d (sizeFor (formatOf k) (receiving.lengthAt (lineOf k) s (place + leadOf k))))
+pub tail-only : (s : List ℕ) (k : ℕ) → RefusesOnly Tail.Refused (10 ∷ 1 ∷ 8 ∷ []) (tailOf s k)
+tail-only s k = refuses-only (λ p q e. cc) (tailOf-keeps s k)
 
-tail-kept : (place t : ℕ) (s d : List ℕ) (q : Tail) → Kept receiving.numberOf d (receiving.byTail place t s d q)
-unfolding receiving.byTail
-tail-kept place t s d Tail.Short = stays
-tail-kept place t s d (Tail.UnknownTail k) = stays
-tail-kept place t s d Tail.OutOfRange = stays
-tail-kept place t s d (Tail.Begins k) = frame-kept k place t s d
+pub size-only : (f : Format) (l : ℕ) → RefusesOnly Frame.Refused (2 ∷ []) (sizeFor f l)
+size-only f l = refuses-only (λ p q e. cc) (sizeFor-keeps f l)
 
-sync-kept : (s d : List ℕ) (q : Sync) → Kept receiving.numberOf d (receiving.bySync s d q)
-unfolding receiving.bySync
-sync-kept s d Sync.OutOfRange = stays
-sync-kept s d (Sync.NoSync t) = stays
-sync-kept s d (Sync.UsedUp t) = stays
-sync-kept s d (Sync.Found place t) = tail-kept place t s d (tailOf s place)
+pub judge-only : (f : Format) (s : List ℕ) → RefusesOnly Frame.Refused (1 ∷ 2 ∷ 3 ∷ []) (judgeOf f s)
+judge-only f s = refuses-only (λ p q e. cc) (judgeOf-kept f s)
 
-pub receive-kept : (s : List ℕ) (start a : ℕ) (d : List ℕ) → Kept receiving.numberOf d (receiving.receptionOf s start a d)
-unfolding receiving.receptionOf
-receive-kept s start a d = sync-kept s d (searchOf s start a)
+pub update-only : (c old new k : ℕ) → RefusesOnly Updated.Refused (10 ∷ []) (updating c old new k)
+update-only c old new k = refuses-only (λ p q e. cc) (updating-keeps c old new k)
 
-pub manchester-kept : (s : List ℕ) (start : ℕ) (d : List ℕ) → Kept receiving.numberOf d (receiving.manchesterOf s start d)
-unfolding receiving.manchesterOf
-manchester-kept s start d = either (inRange s start) (frame-kept ManchesterWithA start 0 s d) stays
+pub header-only : (s : List ℕ) → RefusesOnly HeaderReading.Refused (12 ∷ 11 ∷ []) (headerReadingOf s)
+header-only s = refuses-only (λ p q e. cc) (header-read-kept s)
+
+pub filter-only :
+    (es : List (List ℕ)) (n : ℕ) (s : List ℕ) → RefusesOnly Verdict.Refused (10 ∷ 5 ∷ []) (verdictOf es n s)
+filter-only es n s = refuses-only (λ p q e. cc) (verdictOf-keeps es n s)

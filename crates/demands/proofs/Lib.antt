@@ -1,3 +1,4 @@
 pub mod HarmlessLaws
 pub mod Demands
+pub mod Unlent
 pub mod Starred

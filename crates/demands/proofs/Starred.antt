@@ -3,27 +3,38 @@
 use mathlib.Core.List.{List, [], _∷_}
 use mathlib.Core.Path.{_≡_, refl}
 use Prim.Native.Nat.{ℕ}
-use Rattle.line.specs.declared.Code.the-variants.{ThreeOfSix, Manchester}
+use Rattle.line.specs.declared.codes.Code.the-variants.{ThreeOfSix, Manchester}
 use Rattle.line.specs.Codes.{codeOf}
 use Rattle.line.specs.Encoding.{encoding}
 use Rattle.chips.specs.Chips.{gather}
 use Rattle.chips.specs.Packing.{packed, tabulate}
 use Rattle.crc.specs.Check.{bitIn, bitsIn, byteIn, regOf, checkOf}
-use Rattle.crc.specs.CheckUpdate.{shareOf, updating, valueOf}
+use Rattle.crc.specs.declared.Updated.{Updated}
+use Rattle.crc.specs.CheckUpdate.{shareOf, updating}
 use Rattle.frame.specs.declared.Format.{Format}
 use Rattle.frame.specs.Formats.{formOf, frameSize}
-use Rattle.spans.specs.Spans.{cut, sizeOf}
-use Rattle.header.specs.AccessBits.{accessOf, rowOf}
-use Rattle.header.specs.Letters.{lettersOf, valuesOf}
+use Rattle.blocks.specs.Spans.{cut, sizeOf}
+use Rattle.header.specs.AccessBits.{accessOf, accessRow}
+use Rattle.address.specs.declared.Maker.{Maker}
+use Rattle.address.specs.Letters.{lettersOf}
 
 -- L and the size of a frame whose content has n bytes
 abbrev sizes : Format → ℕ → List ℕ
 sizes f n = formOf f .lengthByte n ∷ frameSize f n ∷ []
 
+-- what an answer returns, nothing where it is no acceptance
+abbrev checkRow : Updated → List ℕ
+checkRow (Updated.Accepted c) = c ∷ []
+checkRow (Updated.Refused r) = []
+
+abbrev letterRow : Maker → List ℕ
+letterRow (Maker.Three a b c) = a ∷ b ∷ c ∷ []
+letterRow Maker.NoLetters = []
+
 pub got : List (List ℕ)
 got =
     (checkOf (0x00 ∷ []) ∷ checkOf (0x01 ∷ []) ∷ checkOf (0x02 ∷ []) ∷ [])
-    ∷ (valueOf (updating 0xFFFF 0x00 0x01 0) ∷ [])
+    ∷ checkRow (updating 0xFFFF 0x00 0x01 0)
     ∷ encoding (codeOf ThreeOfSix) (0x44 ∷ [])
     ∷ encoding (codeOf Manchester) (0x44 ∷ [])
     ∷ sizes Format.A 10
@@ -31,8 +42,8 @@ got =
     ∷ sizes Format.A 255
     ∷ sizes Format.B 125
     ∷ sizes Format.B 126
-    ∷ (rowOf (accessOf 0x84) ∷ rowOf (accessOf 0x80) ∷ rowOf (accessOf 0x04) ∷ [])
-    ∷ valuesOf (lettersOf 0x0443)
+    ∷ (accessRow (accessOf 0x84) ∷ accessRow (accessOf 0x80) ∷ accessRow (accessOf 0x04) ∷ [])
+    ∷ letterRow (lettersOf 0x0443)
     ∷ []
 
 pub want : List (List ℕ)

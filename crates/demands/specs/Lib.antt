@@ -1,1 +1,1 @@
-pub mod Harmless
+pub mod RefusesOnly

@@ -1,2 +1,3 @@
 pub mod ListedLaws
 pub mod FilterLaws
+pub mod WorkedExamples

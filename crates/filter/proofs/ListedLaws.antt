@@ -1,58 +1,70 @@
--- What holds of names, of equal bytes and of lists of entries: what each turn of the two loops does.
---     length-nameOf, nameOf-at    a name has eight bytes, which stand from byte 1 of the content on
---     sameBytes-on, sameBytes-off, sameBytes-end    two bytes that agree, two that differ, no byte left
---     listed-on, listed-off, listed-end    an entry that is not the name, one that is, no entry left
---     verdictOf-judged    where the call is in order, the list decides
-use mathlib.Core.List.{List, []}
-use mathlib.Core.Path.{_≡_, _∙_, ap}
-use mathlib.Core.Bool.{true, false, cond}
-use Prim.Native.Nat.{ℕ, _+_, _<_, _≤_}
+-- Lists of entries: what each turn of the filter's loop does, and what it is to be listed.
+--     listed-next, listed-here, listed-end    at a place: an entry that is not the name, one that is, no entry left
+--     InUse es n b        one of the first n of es is b: which one, that it is in use, that it is b
+--     in-use-listed, listed-in-use    the first n of es list b exactly then
+use mathlib.Core.List.{List, [], _∷_}
+use mathlib.Core.Path.{_≡_, refl, _∙_, sym}
+use mathlib.Core.Bool.{Bool, true, false, _||_, false≢true, or-true}
+use Prim.Native.Nat.{ℕ, zero, suc, _+_, _<_, _≤_}
 use native.Mathlib.Numerals.{add-one}
 use native.Mathlib.Omega.{arith}
-use borrow.Author.Tests.{eq-eqb, ne-eqb, le-ltb}
-use lib.ListN.{length, getD, take, drop, length-take, length-drop, drop-of-length-le}
-use lib.Seq.{length-take-le, drop-cons, getD-take, getD-drop}
-use Rattle.filter.specs.Listed.{nameOf, sameBytes, listed, verdictOf}
-use Rattle.filter.specs.declared.Verdict.the-variants.{Wanted, Unwanted}
+use lib.ListN.{length, getD, take, drop, drop-of-length-le}
+use lib.Seq.{length-take-le, drop-cons, getD-take}
+use Rattle.address.specs.Names.{sameBytes}
+use Rattle.address.proofs.NameLaws.{sameBytes-self, sameBytes-equal}
+use Rattle.filter.specs.Listed.{listed}
 
-pub length-nameOf : (s : List ℕ) → 8 < length s → length (nameOf s) ≡ 8
-length-nameOf s h = simp (length-take, length-drop) (omega arith)
+pub record InUse (es : List (List ℕ)) (n : ℕ) (b : List ℕ) : Type 0 where
+  pub at : ℕ
+  pub used : at < n
+  pub is : getD es at [] ≡ b
 
-pub nameOf-at : (s : List ℕ) (i : ℕ) → i < 8 → getD (nameOf s) i 0 ≡ getD s (i + 1) 0
-nameOf-at s i h =
-    let e : 1 + i ≡ i + 1 = omega arith in
-    getD-take 8 (drop 1 s) i 0 h ∙ getD-drop 1 s i 0 ∙ ap (λ (k : ℕ). getD s k 0) e
+-- an entry that is there is found
+listed-has : (b : List ℕ) (es : List (List ℕ)) (k : ℕ) → k < length es → getD es k [] ≡ b → listed b es ≡ true
+unfolding listed
+listed-has b [] k p q = absurd (omega arith)
+listed-has b (e ∷ es) zero p q = rw (q, sameBytes-self b)
+listed-has b (e ∷ es) (suc k) p q = rw (listed-has b es k (omega arith) q, or-true (sameBytes e b))
 
-module _ (a b : List ℕ) (i : ℕ) (p : i < length a) (q : i < length b) where
-  pub sameBytes-on : getD a i 0 ≡ getD b i 0 → sameBytes (drop (i + 1) a) (drop (i + 1) b) ≡ sameBytes (drop i a) (drop i b)
-  unfolding sameBytes
-  sameBytes-on e = rw (add-one i, drop-cons a i 0 p, drop-cons b i 0 q, eq-eqb _ _ e)
+-- what is found is there: at the front, or behind it
+in-use-cons :
+    (b f : List ℕ) (es : List (List ℕ)) (v : Bool) → sameBytes f b ≡ v
+    → (listed b es ≡ true → InUse es (length es) b) → (v || listed b es) ≡ true → InUse (f ∷ es) (suc (length es)) b
+in-use-cons b f es true same rest e = record { at = 0; used = omega arith; is = sameBytes-equal f b same }
+in-use-cons b f es false same rest e =
+    record { at = suc (rest e .at); used = omega (arith, rest e .used); is = rest e .is }
 
-  pub sameBytes-off : (getD a i 0 ≡ getD b i 0 → ⊥) → sameBytes (drop i a) (drop i b) ≡ false
-  unfolding sameBytes
-  sameBytes-off e = rw (drop-cons a i 0 p, drop-cons b i 0 q, ne-eqb _ _ e)
-
-pub sameBytes-end : (a b : List ℕ) (i : ℕ) → length a ≤ i → length b ≤ i → sameBytes (drop i a) (drop i b) ≡ true
-unfolding sameBytes
-sameBytes-end a b i p q = rw (drop-of-length-le a {i = i} p, drop-of-length-le b {i = i} q)
+listed-found : (b : List ℕ) (es : List (List ℕ)) → listed b es ≡ true → InUse es (length es) b
+unfolding listed
+listed-found b [] e = absurd (false≢true e)
+listed-found b (f ∷ es) e = in-use-cons b f es (sameBytes f b) refl (listed-found b es) e
 
 -- the first n of es are in use
-module _ (b : List ℕ) (es : List (List ℕ)) (n k : ℕ) (fits : n ≤ length es) where
+module _ (es : List (List ℕ)) (n : ℕ) (b : List ℕ) (fits : n ≤ length es) where
   length-in-use : length (take n es) ≡ n
   length-in-use = length-take-le n es fits
 
-  pub listed-on : k < n → sameBytes (getD es k []) b ≡ false → listed b (drop (k + 1) (take n es)) ≡ listed b (drop k (take n es))
-  unfolding listed
-  listed-on p e = rw (add-one k, drop-cons (take n es) k [] (rw length-in-use p), getD-take n es k [] p, e)
+  pub in-use-listed : InUse es n b → listed b (take n es) ≡ true
+  in-use-listed u =
+      listed-has b (take n es) (u .at) (rw length-in-use (u .used)) (getD-take n es (u .at) [] (u .used) ∙ u .is)
 
-  pub listed-off : k < n → sameBytes (getD es k []) b ≡ true → listed b (drop k (take n es)) ≡ true
-  unfolding listed
-  listed-off p e = rw (drop-cons (take n es) k [] (rw length-in-use p), getD-take n es k [] p, e)
+  pub listed-in-use : listed b (take n es) ≡ true → InUse es n b
+  listed-in-use e =
+      let u = listed-found b (take n es) e in
+      let below : u .at < n = rw length-in-use at (u .used) in
+      record { at = u .at; used = below; is = sym (getD-take n es (u .at) [] below) ∙ u .is }
 
-  pub listed-end : n ≤ k → listed b (drop k (take n es)) ≡ false
-  unfolding listed
-  listed-end p = rw (drop-of-length-le (take n es) {i = k} (rw length-in-use p))
+  module _ (k : ℕ) where
+    pub listed-next :
+        k < n → sameBytes (getD es k []) b ≡ false
+        → listed b (drop (k + 1) (take n es)) ≡ listed b (drop k (take n es))
+    unfolding listed
+    listed-next p e = rw (add-one k, drop-cons (take n es) k [] (rw length-in-use p), getD-take n es k [] p, e)
 
-pub verdictOf-judged : (es : List (List ℕ)) (n : ℕ) (s : List ℕ) → n ≤ 16 → 9 ≤ length s
-    → verdictOf es n s ≡ cond (listed (nameOf s) (take n es)) Wanted Unwanted
-verdictOf-judged es n s p q = rw (le-ltb 16 n p, le-ltb (length s) 9 q)
+    pub listed-here : k < n → sameBytes (getD es k []) b ≡ true → listed b (drop k (take n es)) ≡ true
+    unfolding listed
+    listed-here p e = rw (drop-cons (take n es) k [] (rw length-in-use p), getD-take n es k [] p, e)
+
+    pub listed-end : n ≤ k → listed b (drop k (take n es)) ≡ false
+    unfolding listed
+    listed-end p = rw (drop-of-length-le (take n es) {i = k} (rw length-in-use p))

@@ -3,13 +3,14 @@
 ghost use mathlib.Core.Path.{_≡_};
 ghost use Prim.Native.Nat.{_<_};
 ghost use lib.ListN.{length};
-ghost use Rattle.filter.specs.Listed.{nameOf, sameBytes, verdictOf};
+ghost use Rattle.address.specs.Names.{nameOf, sameBytes};
+ghost use Rattle.filter.specs.Listed.{verdictOf};
+use answers::Refusal;
 
 pub enum Verdict {
     Wanted,
     Unwanted,
-    OutOfRange,
-    BadContent,
+    Refused(Refusal),
 }
 
 // Whether the content's M and A, its bytes 1 to 8, are this entry.
@@ -32,10 +33,10 @@ pub fn wanted(entries: [[u8; 8]; 16], count: usize, content: &[u8]) -> Verdict
     ensures { λ r. ⌜ r ≡ verdictOf entries count (now (content .entry)) ⌝ }
 {
     if count > 16 {
-        return Verdict::OutOfRange;
+        return Verdict::Refused(Refusal::OutOfRange);
     }
     if content.len() < 9 {
-        return Verdict::BadContent;
+        return Verdict::Refused(Refusal::BadContent);
     }
     let mut k: usize = 0;
     while k < count {

@@ -1,66 +1,76 @@
 -- The judgement case by case, in the order in which the code makes its tests.
+--     Sized f l z n        what the length byte l says of a frame of z bytes with n of content, if it is not refused
+--     sizeFor-accepted     so it does
+--     judgeOf-nil, -refused, -short, -whole    no byte; L refused; bytes are missing; the checks decide
+--     cond-refused-then, cond-refused-else     a choice that accepts has not taken its refusal
 use mathlib.Core.Bool.{Bool, true, false, cond}
 use mathlib.Core.List.{List, [], _∷_}
-use mathlib.Core.Path.{_≡_, refl, ap, sym, _∙_}
+use mathlib.Core.Path.{_≡_, refl, ap, _∙_}
 use Prim.Native.Nat.{ℕ, _≤_, _<_}
 use native.Mathlib.Nat.{suc-ne-zero, not-suc-le-zero}
 use borrow.Author.Tests.{lt-ltb, le-ltb}
 use lib.ListN.{length, getD}
-use Rattle.spans.specs.Spans.{firstWrong}
+use Rattle.answers.specs.declared.Refusal.{Refusal}
+use Rattle.blocks.specs.Spans.{firstWrong}
 use Rattle.frame.specs.declared.Format.{Format}
-use Rattle.frame.specs.declared.FrameSize.{FrameSize}
-use Rattle.frame.specs.declared.Judged.{Judged}
+use Rattle.frame.specs.declared.Frame.{Frame}
 use Rattle.frame.specs.Formats.{formOf, spansOf, frameSize, sizeFor}
-use Rattle.frame.specs.Judging.{byChecks, bySize, judgeOf}
-use Rattle.frame.proofs.FormatLaws.{length-there}
+use Rattle.frame.specs.Judging.{byChecks, byLength, judgeOf}
+use Rattle.frame.proofs.FormatLaws.{true-within, lengthByte-contentLength, within-contentLength}
 
--- what a length byte that is not refused says
+module _ {z n : ℕ} where
+  pub cond-refused-then :
+      (t : Bool) (r : Refusal) (j : Frame) → cond t (Frame.Refused r) j ≡ Frame.Accepted z n
+      → (t ≡ false) × (j ≡ Frame.Accepted z n)
+  cond-refused-then true r j h = (cc, cc)
+  cond-refused-then false r j h = (refl, h)
+
+  pub cond-refused-else :
+      (t : Bool) (j : Frame) (r : Refusal) → cond t j (Frame.Refused r) ≡ Frame.Accepted z n
+      → (t ≡ true) × (j ≡ Frame.Accepted z n)
+  cond-refused-else true j r h = (refl, h)
+  cond-refused-else false j r h = (cc, cc)
+
 pub record Sized (f : Format) (l z n : ℕ) : Type 0 where
-  pub allowed : formOf f .allowed l ≡ true
+  pub byte : formOf f .lengthByte n ≡ l
   pub size : z ≡ frameSize f n
-  pub content : formOf f .contentLength l ≡ n
+  pub low : formOf f .shortest ≤ n
+  pub high : n ≤ formOf f .longest
 
-sized-by :
-    (f : Format) (l : ℕ) (a : Bool) (z n y m : ℕ)
-    → cond a (FrameSize.Bytes y m) FrameSize.BadLength ≡ FrameSize.Bytes z n → (a ≡ true) × ((y ≡ z) × (m ≡ n))
-sized-by f l true z n y m h = (refl, (cc, cc))
-sized-by f l false z n y m h = (cc, (cc, cc))
+allowed-sized :
+    (f : Format) (l : ℕ) → formOf f .allowed l ≡ true
+    → Sized f l (frameSize f (formOf f .contentLength l)) (formOf f .contentLength l)
+allowed-sized f l h =
+    let bounds = true-within _ _ _ (within-contentLength f l h) in
+    record { byte = lengthByte-contentLength f l h; size = refl; low = bounds .0; high = bounds .1 }
 
-pub sizeFor-bytes : (f : Format) (l z n : ℕ) → sizeFor f l ≡ FrameSize.Bytes z n → Sized f l z n
-sizeFor-bytes f l z n h =
-    let p = sized-by f l (formOf f .allowed l) z n (frameSize f (formOf f .contentLength l)) (formOf f .contentLength l) h in
-    record { allowed = p .0; size = sym (p .1 .0) ∙ ap (frameSize f) (p .1 .1); content = p .1 .1 }
+pub sizeFor-accepted : (f : Format) (l : ℕ) {z n : ℕ} → sizeFor f l ≡ Frame.Accepted z n → Sized f l z n
+sizeFor-accepted f l {z} {n} h =
+    let p = cond-refused-else (formOf f .allowed l) _ _ h in
+    let content : formOf f .contentLength l ≡ n = cc in
+    let size : frameSize f (formOf f .contentLength l) ≡ z = cc in
+    rw (size, content) at (allowed-sized f l (p .0))
 
-pub sizeFor-low : (f : Format) (l z n : ℕ) → sizeFor f l ≡ FrameSize.Bytes z n → formOf f .shortest ≤ n
-sizeFor-low f l z n h =
-    let p = sizeFor-bytes f l z n h in
-    rw (p .content) at (length-there f l (p .allowed) .1 .0)
-
-pub sizeFor-high : (f : Format) (l z n : ℕ) → sizeFor f l ≡ FrameSize.Bytes z n → n ≤ formOf f .longest
-sizeFor-high f l z n h =
-    let p = sizeFor-bytes f l z n h in
-    rw (p .content) at (length-there f l (p .allowed) .1 .1)
-
-pub judgeOf-empty : (f : Format) (s : List ℕ) → length s ≡ 0 → judgeOf f s ≡ Judged.Short
+pub judgeOf-nil : (f : Format) (s : List ℕ) → length s ≡ 0 → judgeOf f s ≡ Frame.Refused Refusal.Short
 unfolding judgeOf
-judgeOf-empty f [] h = refl
-judgeOf-empty f (l ∷ s) h = absurd (suc-ne-zero (length s) h)
+judgeOf-nil f [] h = refl
+judgeOf-nil f (l ∷ s) h = absurd (suc-ne-zero (length s) h)
 
-pub judgeOf-some : (f : Format) (s : List ℕ) → 0 < length s → judgeOf f s ≡ bySize f s (sizeFor f (getD s 0 0))
+judgeOf-cons : (f : Format) (s : List ℕ) → 0 < length s → judgeOf f s ≡ byLength f s (sizeFor f (getD s 0 0))
 unfolding judgeOf
-judgeOf-some f [] h = absurd (not-suc-le-zero h)
-judgeOf-some f (l ∷ s) h = refl
+judgeOf-cons f [] h = absurd (not-suc-le-zero h)
+judgeOf-cons f (l ∷ s) h = refl
 
 module _ (f : Format) (s : List ℕ) (some : 0 < length s) where
-  pub judgeOf-length : sizeFor f (getD s 0 0) ≡ FrameSize.BadLength → judgeOf f s ≡ Judged.BadLength
-  unfolding bySize
-  judgeOf-length e = judgeOf-some f s some ∙ ap (bySize f s) e
+  pub judgeOf-refused : {r : Refusal} → sizeFor f (getD s 0 0) ≡ Frame.Refused r → judgeOf f s ≡ Frame.Refused r
+  unfolding byLength
+  judgeOf-refused e = judgeOf-cons f s some ∙ ap (byLength f s) e
 
-  module _ (z n : ℕ) (e : sizeFor f (getD s 0 0) ≡ FrameSize.Bytes z n) where
-    pub judgeOf-short : length s < z → judgeOf f s ≡ Judged.Short
-    unfolding bySize
-    judgeOf-short h = judgeOf-some f s some ∙ ap (bySize f s) e ∙ rw (lt-ltb (length s) z h)
+  module _ {z n : ℕ} (e : sizeFor f (getD s 0 0) ≡ Frame.Accepted z n) where
+    pub judgeOf-short : length s < z → judgeOf f s ≡ Frame.Refused Refusal.Short
+    unfolding byLength
+    judgeOf-short h = judgeOf-cons f s some ∙ ap (byLength f s) e ∙ rw (lt-ltb (length s) z h)
 
     pub judgeOf-whole : z ≤ length s → judgeOf f s ≡ byChecks z n (firstWrong 1 (spansOf f n) s)
-    unfolding bySize
-    judgeOf-whole h = judgeOf-some f s some ∙ ap (bySize f s) e ∙ rw (le-ltb (length s) z h)
+    unfolding byLength
+    judgeOf-whole h = judgeOf-cons f s some ∙ ap (byLength f s) e ∙ rw (le-ltb (length s) z h)

@@ -1,4 +1,3 @@
-pub mod ByteLaws
 pub mod WorkedExamples
 pub mod FormatLaws
 pub mod JudgeLaws
@@ -8,3 +7,4 @@ pub mod ReadLaws
 pub mod WriteLaws
 pub mod ChangeLaws
 pub mod SequenceLaws
+pub mod RefusalLaws

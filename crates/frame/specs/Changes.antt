@@ -1,6 +1,6 @@
 -- Changing bytes of a finished frame (document 01, "Changing a byte", "Answer numbers": the frame's 1, 2, 3, then 9).
---     changingOf f s k b      the frame's own refusal; BadPlace if it has no content byte k; else s with the frame of the
---                             content whose byte k is now b, the bytes behind the frame as they were
+--     changingOf f s k b      the frame's own refusal; BadPlace if it has no content byte k; else s with the frame of
+--                             the content whose byte k is now b, the bytes behind the frame as they were
 --     placeOf f n k           where byte k of n bytes of content stands in the frame
 --     checkPlaceOf f n k      where the check over it stands, its high byte
 --     Edit                    a change: a place and a byte
@@ -15,25 +15,23 @@ use mathlib.Core.List.{List, [], _∷_, _++_}
 use Prim.Native.Nat.{ℕ, _+_}
 use lib.Dec.{ltb, eqb}
 use lib.ListN.{drop, set}
-use Rattle.ground.specs.Outcome.{Outcome}
-use Rattle.spans.specs.Places.{placeIn, checkIn}
+use Rattle.answers.specs.Outcome.{Outcome, leaving}
+use Rattle.blocks.specs.Places.{placeIn, checkIn}
+use Rattle.answers.specs.declared.Refusal.{Refusal}
 use Rattle.frame.specs.declared.Format.{Format}
-use Rattle.frame.specs.declared.Judged.{Judged}
-use Rattle.frame.specs.declared.Changed.{Changed}
+use Rattle.frame.specs.declared.Frame.{Frame}
 use Rattle.frame.specs.Formats.{spansOf}
 use Rattle.frame.specs.Frames.{frameOf, contentIn}
 use Rattle.frame.specs.Judging.{judgeOf}
 
-unfoldable pub setIn : Format → List ℕ → ℕ → ℕ → Judged → Outcome Changed
-setIn f s k b (Judged.Accepted z n) =
+unfoldable pub setIn : Format → List ℕ → ℕ → ℕ → Frame → Outcome Frame
+setIn f s k b (Frame.Accepted z n) =
     cond (ltb k n)
-    (record { answer = Changed.Accepted z n; memory = frameOf f (set (contentIn f n s) k b) ++ drop z s })
-    (record { answer = Changed.BadPlace; memory = s })
-setIn f s k b Judged.Short = record { answer = Changed.Short; memory = s }
-setIn f s k b Judged.BadLength = record { answer = Changed.BadLength; memory = s }
-setIn f s k b (Judged.WrongCheck w) = record { answer = Changed.WrongCheck w; memory = s }
+    (record { answer = Frame.Accepted z n; memory = frameOf f (set (contentIn f n s) k b) ++ drop z s })
+    (leaving (Frame.Refused Refusal.BadPlace) s)
+setIn f s k b (Frame.Refused r) = leaving (Frame.Refused r) s
 
-unfoldable pub changingOf : Format → List ℕ → ℕ → ℕ → Outcome Changed
+unfoldable pub changingOf : Format → List ℕ → ℕ → ℕ → Outcome Frame
 changingOf f s k b = setIn f s k b (judgeOf f s)
 
 -- L is byte 0 of what the spans hold, so content byte k is byte k + 1
@@ -51,7 +49,7 @@ unfoldable pub changing : Format → List Edit → List ℕ → List ℕ
 changing f [] s = s
 changing f (e ∷ es) s = changing f es (changingOf f s (e .place) (e .byte) .memory)
 
-unfoldable pub answersOf : Format → List Edit → List ℕ → List Changed
+unfoldable pub answersOf : Format → List Edit → List ℕ → List Frame
 answersOf f [] s = []
 answersOf f (e ∷ es) s =
     changingOf f s (e .place) (e .byte) .answer ∷ answersOf f es (changingOf f s (e .place) (e .byte) .memory)

@@ -11,11 +11,11 @@ use mathlib.Core.Bool.{Bool, cond, _&&_, _||_}
 use mathlib.Core.List.{List}
 use Prim.Native.Nat.{ℕ, _+_, _-_}
 use lib.Dec.{leb}
-use Rattle.spans.specs.Spans.{spans, sizeOf}
+use Rattle.blocks.specs.Spans.{spans, sizeOf}
+use Rattle.answers.specs.declared.Refusal.{Refusal}
 use Rattle.frame.specs.declared.Format.{Format}
 use Rattle.frame.specs.declared.Format.the-variants.{A, B}
-use Rattle.frame.specs.declared.FrameSize.{FrameSize}
-use Rattle.frame.specs.declared.FrameSize.the-variants.{Bytes, BadLength}
+use Rattle.frame.specs.declared.Frame.{Frame}
 
 pub record Form : Type 0 where
   -- the first check covers so many bytes, L included, or all if there are fewer; each later check so many
@@ -68,6 +68,8 @@ spansOf f n = spans (formOf f .first) (formOf f .later) (n + 1)
 unfoldable pub frameSize : Format → ℕ → ℕ
 frameSize f n = sizeOf (spansOf f n)
 
-abbrev pub sizeFor : Format → ℕ → FrameSize
+abbrev pub sizeFor : Format → ℕ → Frame
 sizeFor f l =
-    cond (formOf f .allowed l) (Bytes (frameSize f (formOf f .contentLength l)) (formOf f .contentLength l)) BadLength
+    cond (formOf f .allowed l)
+    (Frame.Accepted (frameSize f (formOf f .contentLength l)) (formOf f .contentLength l))
+    (Frame.Refused Refusal.BadLength)

@@ -7,7 +7,7 @@ use mathlib.Core.List.{List, _∷_}
 use mathlib.Core.Path.{_≡_}
 use Prim.Native.Nat.{ℕ, _≤_}
 use lib.ListN.{length, take, drop}
-use Rattle.spans.specs.Spans.{framed, payload}
+use Rattle.blocks.specs.Spans.{framed, payload}
 use Rattle.frame.specs.declared.Format.{Format}
 use Rattle.frame.specs.Formats.{formOf, spansOf, frameSize}
 

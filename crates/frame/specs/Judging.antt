@@ -7,24 +7,25 @@ use mathlib.Core.List.{List, [], _∷_}
 use Prim.Native.Nat.{ℕ}
 use lib.Dec.{ltb}
 use lib.ListN.{length}
-use Rattle.spans.specs.declared.Checks.{Checks}
-use Rattle.spans.specs.declared.Checks.the-variants.{Right, Wrong}
-use Rattle.spans.specs.Spans.{firstWrong}
+use Rattle.blocks.specs.declared.Checks.{Checks}
+use Rattle.blocks.specs.declared.Checks.the-variants.{Right, Wrong}
+use Rattle.blocks.specs.Spans.{firstWrong}
+use Rattle.answers.specs.declared.Refusal.{Refusal}
 use Rattle.frame.specs.declared.Format.{Format}
-use Rattle.frame.specs.declared.FrameSize.{FrameSize}
-use Rattle.frame.specs.declared.Judged.{Judged}
+use Rattle.frame.specs.declared.Frame.{Frame}
 use Rattle.frame.specs.Formats.{spansOf, sizeFor}
 
 -- all bytes are there: do the checks hold?
-unfoldable pub byChecks : ℕ → ℕ → Checks → Judged
-byChecks z n Right = Judged.Accepted z n
-byChecks z n (Wrong b) = Judged.WrongCheck b
+unfoldable pub byChecks : ℕ → ℕ → Checks → Frame
+byChecks z n Right = Frame.Accepted z n
+byChecks z n (Wrong b) = Frame.Refused (Refusal.WrongCheck b)
 
 -- L is known: is it allowed, and are all bytes there?
-unfoldable pub bySize : Format → List ℕ → FrameSize → Judged
-bySize f s (FrameSize.Bytes z n) = cond (ltb (length s) z) Judged.Short (byChecks z n (firstWrong 1 (spansOf f n) s))
-bySize f s FrameSize.BadLength = Judged.BadLength
+unfoldable pub byLength : Format → List ℕ → Frame → Frame
+byLength f s (Frame.Accepted z n) =
+    cond (ltb (length s) z) (Frame.Refused Refusal.Short) (byChecks z n (firstWrong 1 (spansOf f n) s))
+byLength f s (Frame.Refused r) = Frame.Refused r
 
-unfoldable pub judgeOf : Format → List ℕ → Judged
-judgeOf f [] = Judged.Short
-judgeOf f (l ∷ s) = bySize f (l ∷ s) (sizeFor f l)
+unfoldable pub judgeOf : Format → List ℕ → Frame
+judgeOf f [] = Frame.Refused Refusal.Short
+judgeOf f (l ∷ s) = byLength f (l ∷ s) (sizeFor f l)

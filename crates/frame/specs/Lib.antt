@@ -4,4 +4,3 @@ pub mod Judging
 pub mod Reads
 pub mod Writes
 pub mod Changes
-pub mod Numbers

@@ -1,15 +1,17 @@
 // Frames in formats A and B as bytes: read, write, change (EN 13757-4:2019, 12.2 to 12.5; document 01, "Frames",
-// "Changing a byte"). Answers carry the values that document 01 names; specs/Numbers has their numbers.
+// "Changing a byte"). Refusals are those of crate `answers`.
 // What differs between the formats stands in `FormatA` and `FormatB`; all else is written once.
 ghost use mathlib.Core.Path.{_≡_};
 ghost use Prim.Native.Nat.{_≤_};
-ghost use Rattle.ground.specs.Outcome.{Outcome};
+ghost use Rattle.answers.specs.Outcome.{Outcome};
 ghost use Rattle.frame.specs.Formats.{formOf, frameSize, sizeFor};
 ghost use Rattle.frame.specs.Judging.{judgeOf};
 ghost use Rattle.frame.specs.Reads.{readingOf};
 ghost use Rattle.frame.specs.Writes.{writingOf};
 ghost use Rattle.frame.specs.Changes.{changingOf};
-use spans::Checks;
+use answers::Refusal;
+use answers::Written;
+use blocks::Checks;
 
 // The two frame formats.
 pub enum Format {
@@ -17,40 +19,10 @@ pub enum Format {
     B,
 }
 
-// By a length byte: the size of the frame and of its content.
-pub enum FrameSize {
-    Bytes { size: usize, n: usize },
-    BadLength,
-}
-
-// Whether a buffer begins with a frame.
-pub enum Judged {
+// What a length byte or a buffer says of a frame: its size and that of its content, or why there is none.
+pub enum Frame {
     Accepted { size: usize, n: usize },
-    Short,
-    BadLength,
-    WrongCheck(usize),
-}
-
-pub enum Reading {
-    Accepted { size: usize, n: usize },
-    Short,
-    BadLength,
-    WrongCheck(usize),
-    NoRoom,
-}
-
-pub enum Written {
-    Accepted(usize),
-    NoRoom,
-    BadContent,
-}
-
-pub enum Changed {
-    Accepted { size: usize, n: usize },
-    Short,
-    BadLength,
-    WrongCheck(usize),
-    BadPlace,
+    Refused(Refusal),
 }
 
 // Format A: L counts no check; L and nine bytes have the first check, every 16 bytes after them one more.
@@ -82,17 +54,15 @@ impl FormatA {
         n + 3 + 2 * ((n + 6) / 16)
     }
 
-    pub fn frame_size(l: u8) -> FrameSize
+    pub fn frame_size(l: u8) -> Frame
         ensures { λ r. ⌜ r ≡ sizeFor Format.A l ⌝ }
     {
         let n = l as usize;
         if n < Self::SHORTEST {
-            return FrameSize::BadLength;
+            return Frame::Refused(Refusal::BadLength);
         }
-        FrameSize::Bytes {
-            size: Self::size(n),
-            n,
-        }
+        let size = Self::size(n);
+        Frame::Accepted { size, n }
     }
 }
 
@@ -127,26 +97,23 @@ impl FormatB {
         if n < Self::FIRST { n + 3 } else { n + 5 }
     }
 
-    pub fn frame_size(l: u8) -> FrameSize
+    pub fn frame_size(l: u8) -> Frame
         ensures { λ r. ⌜ r ≡ sizeFor Format.B l ⌝ }
     {
         let l = l as usize;
+        let size = l + 1;
         if l < Self::SHORTEST + 2 {
-            return FrameSize::BadLength;
+            return Frame::Refused(Refusal::BadLength);
         }
         if l < Self::FIRST + 2 {
-            return FrameSize::Bytes {
-                size: l + 1,
-                n: l - 2,
-            };
+            let n = l - 2;
+            return Frame::Accepted { size, n };
         }
         if l < Self::FIRST + 4 {
-            return FrameSize::BadLength;
+            return Frame::Refused(Refusal::BadLength);
         }
-        FrameSize::Bytes {
-            size: l + 1,
-            n: l - 4,
-        }
+        let n = l - 4;
+        Frame::Accepted { size, n }
     }
 }
 
@@ -210,7 +177,7 @@ impl Format {
     }
 
     // The size of the frame that begins with the length byte l, and of its content.
-    pub fn frame_size(self, l: u8) -> FrameSize
+    pub fn frame_size(self, l: u8) -> Frame
         ensures { λ r. ⌜ r ≡ sizeFor self l ⌝ }
     {
         match self {
@@ -221,39 +188,40 @@ impl Format {
 }
 
 // Does s begin with a frame? s may be longer.
-pub fn judge(f: Format, s: &[u8]) -> Judged
+pub fn judge(f: Format, s: &[u8]) -> Frame
     ensures { λ r. ⌜ r ≡ judgeOf f (now (s .entry)) ⌝ }
 {
     if s.len() == 0 {
-        return Judged::Short;
+        return Frame::Refused(Refusal::Short);
     }
-    let FrameSize::Bytes { size, n } = f.frame_size(s[0]) else {
-        return Judged::BadLength;
-    };
-    if s.len() < size {
-        return Judged::Short;
-    }
-    match spans::first_wrong(s, f.first(), f.later(), n + 1) {
-        Checks::Wrong(block) => Judged::WrongCheck(block),
-        Checks::Right => Judged::Accepted { size, n },
+    match f.frame_size(s[0]) {
+        Frame::Refused(r) => Frame::Refused(r),
+        Frame::Accepted { size, n } => {
+            if s.len() < size {
+                return Frame::Refused(Refusal::Short);
+            }
+            match blocks::first_wrong(s, f.first(), f.later(), n + 1) {
+                Checks::Wrong(block) => Frame::Refused(Refusal::WrongCheck(block)),
+                Checks::Right => Frame::Accepted { size, n },
+            }
+        }
     }
 }
 
 // Reads the frame that s begins with: its content stands in the first n bytes of out then, the others stay.
-pub fn read(f: Format, s: &[u8], out: &mut [u8]) -> Reading
+pub fn read(f: Format, s: &[u8], out: &mut [u8]) -> Frame
     ensures { λ r.
-        ⌜ _≡_ {A = Outcome Reading} (record { answer = r; memory = now (out .exit) }) (readingOf f (now (s .entry)) (now (out .entry))) ⌝ }
+        ⌜ _≡_ {A = Outcome Frame} (record { answer = r; memory = now (out .exit) })
+        (readingOf f (now (s .entry)) (now (out .entry))) ⌝ }
 {
     match judge(f, s) {
-        Judged::Short => Reading::Short,
-        Judged::BadLength => Reading::BadLength,
-        Judged::WrongCheck(block) => Reading::WrongCheck(block),
-        Judged::Accepted { size, n } => {
+        Frame::Refused(r) => Frame::Refused(r),
+        Frame::Accepted { size, n } => {
             if out.len() < n {
-                return Reading::NoRoom;
+                return Frame::Refused(Refusal::NoRoom);
             }
-            spans::take_out(s, f.first(), f.later(), n, out);
-            Reading::Accepted { size, n }
+            blocks::take_out(s, f.first(), f.later(), n, out);
+            Frame::Accepted { size, n }
         }
     }
 }
@@ -261,38 +229,38 @@ pub fn read(f: Format, s: &[u8], out: &mut [u8]) -> Reading
 // Writes the frame of the content from the first byte of out on; the bytes after it stay.
 pub fn write(f: Format, content: &[u8], out: &mut [u8]) -> Written
     ensures { λ r.
-        ⌜ _≡_ {A = Outcome Written} (record { answer = r; memory = now (out .exit) }) (writingOf f (now (content .entry)) (now (out .entry))) ⌝ }
+        ⌜ _≡_ {A = Outcome Written} (record { answer = r; memory = now (out .exit) })
+        (writingOf f (now (content .entry)) (now (out .entry))) ⌝ }
 {
     let n = content.len();
     if n < f.shortest() {
-        return Written::BadContent;
+        return Written::Refused(Refusal::BadContent);
     }
     if f.longest() < n {
-        return Written::BadContent;
+        return Written::Refused(Refusal::BadContent);
     }
     let size = f.size(n);
     if out.len() < size {
-        return Written::NoRoom;
+        return Written::Refused(Refusal::NoRoom);
     }
-    spans::put_all(f.length_byte(n), content, f.first(), f.later(), out);
+    blocks::put_all(f.length_byte(n), content, f.first(), f.later(), out);
     Written::Accepted(size)
 }
 
 // Sets one content byte of the frame that s begins with; its check is mended, all other bytes stay.
-pub fn change(f: Format, s: &mut [u8], place: usize, byte: u8) -> Changed
+pub fn change(f: Format, s: &mut [u8], place: usize, byte: u8) -> Frame
     ensures { λ r.
-        ⌜ _≡_ {A = Outcome Changed} (record { answer = r; memory = now (s .exit) }) (changingOf f (now (s .entry)) place byte) ⌝ }
+        ⌜ _≡_ {A = Outcome Frame} (record { answer = r; memory = now (s .exit) })
+        (changingOf f (now (s .entry)) place byte) ⌝ }
 {
     match judge(f, s) {
-        Judged::Short => Changed::Short,
-        Judged::BadLength => Changed::BadLength,
-        Judged::WrongCheck(block) => Changed::WrongCheck(block),
-        Judged::Accepted { size, n } => {
+        Frame::Refused(r) => Frame::Refused(r),
+        Frame::Accepted { size, n } => {
             if n <= place {
-                return Changed::BadPlace;
+                return Frame::Refused(Refusal::BadPlace);
             }
-            spans::set_byte(s, f.first(), f.later(), n + 1, place + 1, byte);
-            Changed::Accepted { size, n }
+            blocks::set_byte(s, f.first(), f.later(), n + 1, place + 1, byte);
+            Frame::Accepted { size, n }
         }
     }
 }

@@ -27,7 +27,10 @@ pub bit-shl : (x w k n : ℕ) → k ≤ n → n < w → x * 2 ^ k % 2 ^ w / 2 ^ 
 bit-shl x w k n le h =
     let cut : k + (n - k) ≡ n = omega arith in
     bit-mod (x * 2 ^ k) w n h
-    ∙ ap (λ (y : ℕ). y % 2) (ap (λ (e : ℕ). x * 2 ^ k / 2 ^ e) (sym cut) ∙ sym (shr-shr (x * 2 ^ k) k (n - k)) ∙ ap (λ (y : ℕ). y / 2 ^ (n - k)) (shl-shr x k))
+    ∙ ap (λ (y : ℕ). y % 2)
+    (ap (λ (e : ℕ). x * 2 ^ k / 2 ^ e) (sym cut)
+    ∙ sym (shr-shr (x * 2 ^ k) k (n - k))
+    ∙ ap (λ (y : ℕ). y / 2 ^ (n - k)) (shl-shr x k))
 
 pub bit-and : (a b n : ℕ) → a / 2 ^ n % 2 ≡ 1 → b / 2 ^ n % 2 ≡ 1 → bitAnd a b / 2 ^ n % 2 ≡ 1
 bit-and a b n p q = ap (λ (y : ℕ). y % 2) (and-shr a b n) ∙ and-mod (a / 2 ^ n) (b / 2 ^ n) 1 ∙ ap₂ bitAnd p q

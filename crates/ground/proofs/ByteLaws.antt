@@ -1,13 +1,10 @@
--- Lists of bytes: every element is below 256.
---     Bytes s    the elements of s are bytes; a place past the end reads as 0, which is one
---     bytes-nil, bytes-cons, bytes-append, bytes-take, bytes-drop    so are the lists made of such lists
+-- Lists of bytes (specs/Bytes).
+--     bytes-nil, bytes-cons, bytes-append, bytes-take, bytes-drop    lists made of lists of bytes are such lists
 use mathlib.Core.List.{List, [], _∷_, _++_}
 use Prim.Native.Nat.{ℕ, zero, suc, _<_}
 use native.Mathlib.Omega.{arith}
-use lib.ListN.{getD, take, drop}
-
-abbrev pub Bytes : List ℕ → Type 0
-Bytes s = (j : ℕ) → getD s j 0 < 256
+use lib.ListN.{take, drop}
+use Rattle.ground.specs.Bytes.{Bytes}
 
 pub bytes-nil : Bytes []
 bytes-nil j = omega arith

@@ -1,6 +1,6 @@
 -- Taking cases apart: what a test that was made says, and that two different cases are never one.
 --     and-left, and-right    both tests of an && hold where it holds
---     clash                  where `cc` shows 0 ≡ 1, from two constructors that would be equal, nothing is left to show
+--     zero-not-one           where `cc` shows 0 ≡ 1, from two constructors that would be equal, nothing is left
 use mathlib.Core.Bool.{Bool, true, false, _&&_}
 use mathlib.Core.Path.{_≡_, refl}
 use Prim.Native.Nat.{ℕ}
@@ -14,5 +14,5 @@ pub and-right : (a b : Bool) → a && b ≡ true → b ≡ true
 and-right true b h = h
 and-right false b h = cc
 
-pub clash : _≡_ {A = ℕ} 0 1 → ⊥
-clash h = omega arith
+pub zero-not-one : _≡_ {A = ℕ} 0 1 → ⊥
+zero-not-one h = omega arith

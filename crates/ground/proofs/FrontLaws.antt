@@ -1,4 +1,4 @@
--- Memory that is filled from its first place on: `p ++ drop i d`, where p are the i elements written and d stood before.
+-- Memory that is filled from its first place on: `p ++ drop i d`, where p are the i elements written over d.
 --     front-store     the next element stored
 --     front-length    the length stays
 use mathlib.Core.Path.{_≡_, ap, sym, _∙_}

@@ -1,6 +1,5 @@
 pub mod BitLaws
 pub mod ByteLaws
-pub mod Settled
 pub mod XorLaws
 pub mod TableLaws
 pub mod StoresLaws

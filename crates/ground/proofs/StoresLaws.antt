@@ -12,9 +12,12 @@ use lib.Seq.{sets, sets-eq}
 module _ {A : Type 0} where
   pub sets-append : (xs ys l : List A) (k : ℕ) → sets (sets l k xs) (k + length xs) ys ≡ sets l k (xs ++ ys)
   sets-append [] ys l k = rw (add-zero k)
-  sets-append (x ∷ xs) ys l k = rw (add-suc k (length xs), ← suc-add k (length xs)) (sets-append xs ys (set l k x) (suc k))
+  sets-append (x ∷ xs) ys l k =
+      rw (add-suc k (length xs), ← suc-add k (length xs)) (sets-append xs ys (set l k x) (suc k))
 
-  pub sets-then : (xs ys l : List A) (k : ℕ) {m n : List A} → m ≡ sets l k xs → n ≡ sets m (k + length xs) ys → n ≡ sets l k (xs ++ ys)
+  pub sets-then :
+      (xs ys l : List A) (k : ℕ) {m n : List A} → m ≡ sets l k xs → n ≡ sets m (k + length xs) ys
+      → n ≡ sets l k (xs ++ ys)
   sets-then xs ys l k p q = q ∙ rw p (sets-append xs ys l k)
 
   pub sets-start : (vs l : List A) → length vs ≤ length l → sets l 0 vs ≡ vs ++ drop (length vs) l

@@ -1,9 +1,9 @@
 -- Facts about every number below a bound, shown by letting antt compute them one after the other.
 --     values f n i    the list f i, f (i + 1), .., of n entries
---     value           entry k of a table that lists f from 0 is f k
+--     getD-values     entry k of a table that lists f from 0 is f k
 --     allBelow f n    the test f passes at every number below n
---     below-at        then it passes at each of them
--- A table of the source that follows a rule f is `values f n 0` by computation, so that `value` is its whole proof.
+--     allBelow-at     then it passes at each of them
+-- A table of the source that follows a rule f is `values f n 0` by computation: `getD-values` is its whole proof.
 -- Assumes nothing.
 use mathlib.Core.Path.{_≡_, ap, _∙_, sym, subst}
 use mathlib.Core.Logic.{⊎-elim}
@@ -20,26 +20,26 @@ abbrev pub values : {A : Type 0} → (ℕ → A) → ℕ → ℕ → List A
 values f zero i = []
 values f (suc n) i = f i ∷ values f n (suc i)
 
-value-from : {A : Type 0} (f : ℕ → A) (n i k : ℕ) (d : A) → k < n → getD (values f n i) k d ≡ f (i + k)
-value-from f zero i k d h = absurd (not-suc-le-zero h)
-value-from f (suc n) i zero d h =
+getD-values-from : {A : Type 0} (f : ℕ → A) (n i k : ℕ) (d : A) → k < n → getD (values f n i) k d ≡ f (i + k)
+getD-values-from f zero i k d h = absurd (not-suc-le-zero h)
+getD-values-from f (suc n) i zero d h =
     let e : i ≡ i + 0 = omega arith in
     ap f e
-value-from f (suc n) i (suc k) d h =
+getD-values-from f (suc n) i (suc k) d h =
     let e : suc i + k ≡ i + suc k = omega arith in
-    value-from f n (suc i) k d (le-of-suc-le-suc h) ∙ ap f e
+    getD-values-from f n (suc i) k d (le-of-suc-le-suc h) ∙ ap f e
 
-pub value : {A : Type 0} (f : ℕ → A) (n k : ℕ) (d : A) → k < n → getD (values f n 0) k d ≡ f k
-value f n k d h =
+pub getD-values : {A : Type 0} (f : ℕ → A) (n k : ℕ) (d : A) → k < n → getD (values f n 0) k d ≡ f k
+getD-values f n k d h =
     let e : 0 + k ≡ k = omega arith in
-    value-from f n 0 k d h ∙ ap f e
+    getD-values-from f n 0 k d h ∙ ap f e
 
 abbrev pub allBelow : (ℕ → Bool) → ℕ → Bool
 allBelow f zero = true
 allBelow f (suc n) = f n && allBelow f n
 
-pub below-at : (f : ℕ → Bool) (n : ℕ) → T (allBelow f n) → (k : ℕ) → k < n → T (f k)
-below-at f zero t k h = absurd (not-suc-le-zero h)
-below-at f (suc n) t k h =
+pub allBelow-at : (f : ℕ → Bool) (n : ℕ) → T (allBelow f n) → (k : ℕ) → k < n → T (f k)
+allBelow-at f zero t k h = absurd (not-suc-le-zero h)
+allBelow-at f (suc n) t k h =
     ⊎-elim (λ e. subst (λ (m : ℕ). T (f m)) (sym e) (and-l (f n) (allBelow f n) t))
-    (λ l. below-at f n (and-r (f n) (allBelow f n) t) k l) (eq-or-lt-of-le (le-of-suc-le-suc h))
+    (λ l. allBelow-at f n (and-r (f n) (allBelow f n) t) k l) (eq-or-lt-of-le (le-of-suc-le-suc h))

@@ -1,9 +1,8 @@
 pub mod LayoutLaws
-pub mod ReadingLaws
-pub mod WritingLaws
-pub mod SentLaws
-pub mod TakenLaws
-pub mod HeaderLaws
+pub mod FieldLaws
+pub mod HeaderReadsLaws
+pub mod HeaderWritesLaws
+pub mod HeaderTripLaws
+pub mod HeaderRefusalLaws
 pub mod AccessLaws
-pub mod LettersLaws
 pub mod WorkedExamples

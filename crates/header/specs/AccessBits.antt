@@ -1,16 +1,13 @@
 -- When a meter may be called (EN 13757-4:2019, 12.6.3.2, Table 37; 13.2.7).
 --     bitB cc, bitA cc    the table's two bits in the byte CC: bit 7, bit 2
 --     accessOf cc         the access that CC announces
---     numberOf a, rowOf a    document 01's number for the answer a, and its value: the table's row, 0 to 3
+--     accessRow a         the answer's value in document 01: the table's row, 0 to 3
 -- Not here: the other bits of CC, on which nothing is built.
 use mathlib.Core.Bool.{cond}
 use Prim.Native.Nat.{ℕ, _/_, _%_}
 use lib.Dec.{eqb}
-use Rattle.header.specs.declared.Access.{Access}
-use Rattle.header.specs.declared.Access.the-variants.{NoAccess, NoneForNow, Limited, Unlimited}
-
-abbrev pub numberOf : Access → ℕ
-numberOf a = 0
+use Rattle.header.specs.declared.access.Access.{Access}
+use Rattle.header.specs.declared.access.Access.the-variants.{NoAccess, NoneForNow, Limited, Unlimited}
 
 abbrev pub bitB : ℕ → ℕ
 bitB cc = cc / 128 % 2
@@ -20,11 +17,12 @@ bitA cc = cc / 4 % 2
 
 -- the rows 00, 01, 10, 11 in their order
 abbrev pub accessOf : ℕ → Access
-accessOf cc = cond (eqb (bitB cc) 0) (cond (eqb (bitA cc) 0) NoAccess NoneForNow) (cond (eqb (bitA cc) 0) Limited Unlimited)
+accessOf cc =
+    cond (eqb (bitB cc) 0) (cond (eqb (bitA cc) 0) NoAccess NoneForNow) (cond (eqb (bitA cc) 0) Limited Unlimited)
 
 -- the row that an access is, as the number of its two bits
-abbrev pub rowOf : Access → ℕ
-rowOf NoAccess = 0
-rowOf NoneForNow = 1
-rowOf Limited = 2
-rowOf Unlimited = 3
+abbrev pub accessRow : Access → ℕ
+accessRow NoAccess = 0
+accessRow NoneForNow = 1
+accessRow Limited = 2
+accessRow Unlimited = 3

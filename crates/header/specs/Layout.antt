@@ -5,35 +5,35 @@
 --     secured k          whether SN and PayloadCRC are in it
 --     receiverPlace      where M2 starts
 --     sessionPlace k     where SN starts
---     lengthOf k         bytes of the whole header, CI among them
---     twoBytes x         x as two bytes, fourBytes x as four: least significant first
---     receiverBytes r    M2, then A2 as it stands
+--     headerLength k     bytes of the whole header, CI among them
+--     fourBytes x        x as four bytes, least significant first
 --     sessionBytes s     SN, then PayloadCRC as it stands
---     receiverPart k r, sessionPart k s    the same where the kind k has them, else no bytes
+--     receiverPart k n, sessionPart k s    M2 and A2, and SN and PayloadCRC, where the kind k has them, else no bytes
 --     headerBytes h      the whole header as it is sent
 -- Not here: CI 86h, which is not built; what the fields mean.
 use mathlib.Core.List.{List, [], _∷_, _++_}
 use mathlib.Core.Bool.{Bool, true, false, cond}
 use Prim.Native.Nat.{ℕ, _+_, _/_, _%_}
-use Rattle.header.specs.declared.Kind.{Kind}
-use Rattle.header.specs.declared.Kind.the-variants.{Plain, Secured, Addressed, AddressedSecured}
-use Rattle.header.specs.declared.Receiver.{Receiver}
-use Rattle.header.specs.declared.Session.{Session}
-use Rattle.header.specs.declared.Header.{Header}
+use Rattle.address.specs.declared.Name.{Name}
+use Rattle.address.specs.Names.{twoBytes, nameBytes}
+use Rattle.header.specs.declared.layout.HeaderKind.{HeaderKind}
+use Rattle.header.specs.declared.layout.HeaderKind.the-variants.{Plain, Secured, Addressed, AddressedSecured}
+use Rattle.header.specs.declared.layout.Session.{Session}
+use Rattle.header.specs.declared.layout.Header.{Header}
 
-abbrev pub ciOf : Kind → ℕ
+abbrev pub ciOf : HeaderKind → ℕ
 ciOf Plain = 0x8C
 ciOf Secured = 0x8D
 ciOf Addressed = 0x8E
 ciOf AddressedSecured = 0x8F
 
-abbrev pub addressed : Kind → Bool
+abbrev pub addressed : HeaderKind → Bool
 addressed Plain = false
 addressed Secured = false
 addressed Addressed = true
 addressed AddressedSecured = true
 
-abbrev pub secured : Kind → Bool
+abbrev pub secured : HeaderKind → Bool
 secured Plain = false
 secured Secured = true
 secured Addressed = false
@@ -42,28 +42,22 @@ secured AddressedSecured = true
 abbrev pub receiverPlace : ℕ
 receiverPlace = 3
 
-abbrev pub sessionPlace : Kind → ℕ
+abbrev pub sessionPlace : HeaderKind → ℕ
 sessionPlace k = receiverPlace + cond (addressed k) 8 0
 
-abbrev pub lengthOf : Kind → ℕ
-lengthOf k = sessionPlace k + cond (secured k) 6 0
-
-abbrev pub twoBytes : ℕ → List ℕ
-twoBytes x = x % 256 ∷ x / 256 ∷ []
+abbrev pub headerLength : HeaderKind → ℕ
+headerLength k = sessionPlace k + cond (secured k) 6 0
 
 abbrev pub fourBytes : ℕ → List ℕ
 fourBytes x = twoBytes (x % 65536) ++ twoBytes (x / 65536)
 
-abbrev pub receiverBytes : Receiver → List ℕ
-receiverBytes r = twoBytes (r .m2) ++ (r .a2 .0 ∷ r .a2 .1 ∷ r .a2 .2 ∷ r .a2 .3 ∷ r .a2 .4 ∷ r .a2 .5 ∷ [])
-
 abbrev pub sessionBytes : Session → List ℕ
 sessionBytes s = fourBytes (s .sn) ++ (s .check .0 ∷ s .check .1 ∷ [])
 
-abbrev pub receiverPart : Kind → Receiver → List ℕ
-receiverPart k r = cond (addressed k) (receiverBytes r) []
+abbrev pub receiverPart : HeaderKind → Name → List ℕ
+receiverPart k n = cond (addressed k) (nameBytes n) []
 
-abbrev pub sessionPart : Kind → Session → List ℕ
+abbrev pub sessionPart : HeaderKind → Session → List ℕ
 sessionPart k s = cond (secured k) (sessionBytes s) []
 
 abbrev pub headerBytes : Header → List ℕ

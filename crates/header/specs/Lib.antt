@@ -1,5 +1,4 @@
 pub mod Layout
-pub mod Reading
-pub mod Writing
+pub mod HeaderReads
+pub mod HeaderWrites
 pub mod AccessBits
-pub mod Letters

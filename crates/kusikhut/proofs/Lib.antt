@@ -1,2 +1,1 @@
-pub mod HeaderLaws
 pub mod ToldLaws

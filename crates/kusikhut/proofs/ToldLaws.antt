@@ -1,15 +1,23 @@
--- An answer told by its number and its values, with the memory that the call left, is the outcome told.
+-- An answer told as a row, with the memory that the call left, is the outcome told; a reception's row has its places.
 use mathlib.Core.Path.{_≡_, _∙_, ap}
+use mathlib.Core.Bool.{Bool, true, false, cond}
 use mathlib.Core.List.{List}
-use Prim.Native.Nat.{ℕ}
-use Rattle.ground.specs.Outcome.{Outcome}
-use Rattle.kusikhut.specs.Told.{Told, shown, told}
+use Prim.Native.Nat.{ℕ, _<_}
+use native.Mathlib.Omega.{arith}
+use lib.Dec.{eqb}
+use Rattle.answers.specs.Outcome.{Outcome}
+use Rattle.kusikhut.specs.Told.{Told, told, shown, tells, refusalPlace}
 
-module _ {A : Type 0} (n : A → ℕ) (v : A → List ℕ) where
-  as-told : (a : A) (m : List ℕ) {r : ℕ} {w : List ℕ} → r ≡ n a → w ≡ v a → shown r w m ≡ told n v (record { answer = a; memory = m })
-  as-told a m number values = rw (number, values)
+pub shown-tells :
+    {A : Type 0} (f : A → Told ℕ) {a : A} {r : ℕ} {v m : List ℕ} {o : Outcome A}
+    → _≡_ {A = Outcome A} (record { answer = a; memory = m }) o → told r v ≡ f a → shown r v m ≡ tells f o
+shown-tells f outcome e = rw e (ap (tells f) outcome)
 
-  pub tells :
-      {a : A} {r : ℕ} {w m : List ℕ} {o : Outcome A} → r ≡ n a → w ≡ v a
-      → _≡_ {A = Outcome A} (record { answer = a; memory = m }) o → shown r w m ≡ told n v o
-  tells {a} {r} {w} {m} {o} number values outcome = as-told a m number values ∙ ap (told n v) outcome
+cond-lt-7 : (a b c : Bool) → cond a 5 (cond b 6 (cond c 1 2)) < 7
+cond-lt-7 true b c = omega arith
+cond-lt-7 false true c = omega arith
+cond-lt-7 false false true = omega arith
+cond-lt-7 false false false = omega arith
+
+pub refusalPlace-lt : (n : ℕ) → refusalPlace n < 7
+refusalPlace-lt n = cond-lt-7 (eqb n 3) (eqb n 6) (eqb n 8)

@@ -1,4 +1,2 @@
 pub mod Told
-pub mod Values
-pub mod Fields
 pub mod Calls

@@ -1,12 +1,16 @@
 // The exported library: every operation of the base on numbers and byte slices, for C and Rust (include/kusikhut.h).
-// Each function calls the proved one and tells its answer as numbers; nothing is decided here. Where 01 has several
-// codes, formats or kinds, each has a function of its own, so that no other can be asked for.
+// Each function calls the proved one and tells its answer as a number and a row of results; nothing is decided here.
+// Where 01 has several codes, formats or kinds, each has a function of its own, so that no other can be asked for.
+// `s` is what is read, `d` what is lent, `v` the row of results. A module has the name of the crate that it calls and
+// `_calls`, since no module may have a crate's own name.
 
-mod checks; // checks.rt: the block check and its update
-mod searching; // searching.rt: the sync search
-mod headers; // headers.rt: extended link headers, access, letters
-mod mode_n; // mode_n.rt: mode N rows, centres and bands
-mod meters; // meters.rt: the meter filter
-mod codes; // codes.rt: the line codes alone
-mod frames; // frames.rt: frames as bytes
-mod reception; // reception.rt: frames as chips
+mod answers_calls; // answers_calls.rt: refusals and rows of one result, and what every writer tells
+mod crc_calls; // crc_calls.rt: the block check and its update
+mod line_calls; // line_calls.rt: the line codes alone
+mod frame_calls; // frame_calls.rt: frames as bytes
+mod sync_calls; // sync_calls.rt: the sync search
+mod radio_calls; // radio_calls.rt: frames as chips
+mod address_calls; // address_calls.rt: the letters of a maker
+mod header_calls; // header_calls.rt: extended link headers, access
+mod filter_calls; // filter_calls.rt: the meter filter
+mod channels_calls; // channels_calls.rt: mode N rows, centres and bands

@@ -13,8 +13,22 @@ use native.Mathlib.Omega.{arith}
 use borrow.Author.Tests.{eqb-true, eqb-false, eq-eqb, ne-eqb}
 use lib.Dec.{eqb}
 use Rattle.line.specs.Decoding.{goodRun, isWord}
-use Rattle.line.specs.declared.Value.{Value}
-use Rattle.line.specs.declared.Value.the-variants.{Is, NoWord}
+use Rattle.line.specs.declared.codes.Value.{Value}
+use Rattle.line.specs.declared.codes.Value.the-variants.{Is, NoWord}
+
+-- one word more, where a words stand before the run g of b words
+added : (a b g : ℕ) (u t : Bool) → eqb g b ≡ t
+    → cond (eqb (a + g) (a + b)) (cond u (suc (a + b)) (a + b)) (a + g) ≡ a + cond t (cond u (suc b) b) g
+added a b g true true e = rw (eq-eqb (a + g) (a + b) (omega (arith, eqb-true g b e))) (omega arith)
+added a b g false true e = rw (eq-eqb (a + g) (a + b) (omega (arith, eqb-true g b e)))
+added a b g u false e = rw (ne-eqb (a + g) (a + b) (λ s. eqb-false g b e (omega arith)))
+
+-- the run g of m words grew with word m, which is a code word if u
+unbroken : (m g : ℕ) (t : Bool) → eqb g m ≡ t → (u : Bool) {w : Bool} → w ≡ u → g ≤ m
+    → cond t (cond u (suc m) m) g ≡ suc m → (g ≡ m) × (w ≡ true)
+unbroken m g true e true word le h = (eqb-true g m e, word)
+unbroken m g true e false word le h = absurd (omega arith)
+unbroken m g false e u word le h = absurd (omega arith)
 
 module _ (f : ℕ → Value) where
   pub goodRun-le : (m : ℕ) → goodRun f m ≤ m
@@ -45,34 +59,19 @@ module _ (f : ℕ → Value) where
   unfolding goodRun
   goodRun-shift a zero run = rw add-zero (omega arith)
   goodRun-shift a (suc b) run =
-      rw add-suc (by (eqb (goodRun (λ k. f (a + k)) b) b) refl (isWord (f (a + b))) (goodRun-shift a b run)) where
-        by : (t : Bool) → eqb (goodRun (λ k. f (a + k)) b) b ≡ t → (u : Bool) → goodRun f (a + b) ≡ a + goodRun (λ k. f (a + k)) b
-            → cond (eqb (goodRun f (a + b)) (a + b)) (cond u (suc (a + b)) (a + b)) (goodRun f (a + b)) ≡ a + cond t (cond u (suc b) b) (goodRun (λ k. f (a + k)) b)
-        by true e true ih =
-            let same : goodRun (λ k. f (a + k)) b ≡ b = eqb-true _ b e in
-            rw (eq-eqb (goodRun f (a + b)) (a + b) (omega arith)) (omega arith)
-        by true e false ih =
-            let same : goodRun (λ k. f (a + k)) b ≡ b = eqb-true _ b e in
-            rw (eq-eqb (goodRun f (a + b)) (a + b) (omega arith))
-        by false e u ih = rw (ne-eqb (goodRun f (a + b)) (a + b) (λ s. eqb-false _ b e (omega arith))) ih
+      let ih : goodRun f (a + b) ≡ a + goodRun (λ k. f (a + k)) b = goodRun-shift a b run in
+      let g : ℕ = goodRun (λ k. f (a + k)) b in
+      rw (add-suc, ih) (added a b g (isWord (f (a + b))) (eqb g b) refl)
 
-  -- a run of m + 1 words that is unbroken was so at m, and its last word is a code word
-  whole-before : (m : ℕ) → goodRun f (suc m) ≡ suc m → (goodRun f m ≡ m) × (isWord (f m) ≡ true)
+  -- an unbroken run of m + 1 words was so at m, and its last word is a code word
+  goodRun-suc : (m : ℕ) → goodRun f (suc m) ≡ suc m → (goodRun f m ≡ m) × (isWord (f m) ≡ true)
   unfolding goodRun
-  whole-before m run = by (eqb (goodRun f m) m) refl (isWord (f m)) refl run where
-    by : (t : Bool) → eqb (goodRun f m) m ≡ t → (u : Bool) → isWord (f m) ≡ u → cond t (cond u (suc m) m) (goodRun f m) ≡ suc m → (goodRun f m ≡ m) × (isWord (f m) ≡ true)
-    by true e true w h = (eqb-true _ m e, w)
-    by true e false w h = absurd (off h) where
-      off : m ≡ suc m → ⊥
-      off h = omega arith
-    by false e u w h = absurd (off h (goodRun-le m)) where
-      off : goodRun f m ≡ suc m → goodRun f m ≤ m → ⊥
-      off h le = omega arith
+  goodRun-suc m run = unbroken m (goodRun f m) (eqb (goodRun f m) m) refl (isWord (f m)) refl (goodRun-le m) run
 
   pub goodRun-all : (m : ℕ) → goodRun f m ≡ m → (i : ℕ) → i < m → isWord (f i) ≡ true
   goodRun-all zero run i h = absurd (not-suc-le-zero h)
   goodRun-all (suc m) run i h =
-      let step : (goodRun f m ≡ m) × (isWord (f m) ≡ true) = whole-before m run in
+      let step : (goodRun f m ≡ m) × (isWord (f m) ≡ true) = goodRun-suc m run in
       ⊎-elim (λ e. rw e (step .1)) (λ lt. goodRun-all m (step .0) i lt) (eq-or-lt-of-le (le-of-suc-le-suc h))
 
   pub goodRun-whole : (m : ℕ) → ((i : ℕ) → i < m → isWord (f i) ≡ true) → goodRun f m ≡ m

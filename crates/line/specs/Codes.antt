@@ -3,21 +3,18 @@
 --     LineCode         bits and chips of a word, and wordOf, the code word of each number below 2 ^ bits
 --     codeOf           which code each case of the enum Code is: the only place where the three differ
 --     codeWords        three-of-six: the code words of 0 to 15
---     valueOf κ y      the number whose code word y is; NoWord where y is no code word
---     Guess κ y r      r is the one number that the word y can stand for, whether or not y is a code word
---     Halves t         t lists the number of each three-of-six word, 16 where a word is no code word
+--     wordValue κ y    the number whose code word y is; NoWord where y is no code word
 --     wordsIn κ n      how many words n bytes take
 --     chipsIn κ n      how many chips n bytes take
 use mathlib.Core.Bool.{cond}
-use mathlib.Core.Path.{_≡_}
 use mathlib.Core.List.{List, [], _∷_}
-use Prim.Native.Nat.{ℕ, zero, suc, _*_, _/_, _^_, _<_}
+use Prim.Native.Nat.{ℕ, zero, suc, _*_, _/_, _^_}
 use lib.Dec.{eqb}
-use lib.ListN.{length, getD}
-use Rattle.line.specs.declared.Code.{Code}
-use Rattle.line.specs.declared.Code.the-variants.{Nrz, ThreeOfSix, Manchester}
-use Rattle.line.specs.declared.Value.{Value}
-use Rattle.line.specs.declared.Value.the-variants.{Is, NoWord}
+use lib.ListN.{getD}
+use Rattle.line.specs.declared.codes.Code.{Code}
+use Rattle.line.specs.declared.codes.Code.the-variants.{Nrz, ThreeOfSix, Manchester}
+use Rattle.line.specs.declared.codes.Value.{Value}
+use Rattle.line.specs.declared.codes.Value.the-variants.{Is, NoWord}
 
 pub record LineCode : Type 0 where
   pub bits : ℕ
@@ -38,21 +35,8 @@ unfoldable pub numberFor : (ℕ → ℕ) → ℕ → ℕ → Value
 numberFor word y zero = NoWord
 numberFor word y (suc n) = cond (eqb (word n) y) (Is n) (numberFor word y n)
 
-abbrev pub valueOf : LineCode → ℕ → Value
-valueOf κ y = numberFor (κ .wordOf) y (2 ^ κ .bits)
-
--- r is the one number that the word y can stand for
-pub record Guess (κ : LineCode) (y r : ℕ) : Type 0 where
-  pub below : r < 2 ^ κ .bits
-  pub only : (x : ℕ) → x < 2 ^ κ .bits → κ .wordOf x ≡ y → r ≡ x
-
-abbrev pub halfOf : Value → ℕ
-halfOf (Is x) = x
-halfOf NoWord = 16
-
-pub record Halves (t : List ℕ) : Type 0 where
-  pub size : length t ≡ 64
-  pub entry : (y : ℕ) → y < 64 → getD t y 0 ≡ halfOf (valueOf (codeOf ThreeOfSix) y)
+abbrev pub wordValue : LineCode → ℕ → Value
+wordValue κ y = numberFor (κ .wordOf) y (2 ^ κ .bits)
 
 abbrev pub wordsIn : LineCode → ℕ → ℕ
 wordsIn κ n = n * (8 / κ .bits)

@@ -2,3 +2,4 @@ pub mod Codes
 pub mod Decoding
 pub mod Encoding
 pub mod OneWord
+pub mod Inner

@@ -1,7 +1,9 @@
 pub mod AirLaws
-pub mod CodedLaws
+pub mod AirRefusalLaws
+pub mod DecodeCallLaws
 pub mod FrameHeardLaws
 pub mod HeardLaws
+pub mod KindLaws
 pub mod PutLaws
 pub mod RoundLaws
 pub mod SendLaws

@@ -1,49 +1,54 @@
 -- Sending and receiving undo each other, for every kind (document 01; specs/Sending, specs/Heard).
---     sending-accepts, sending-accepted    sending, by the content and the room alone
---     sent-among      what was sent stands among other bytes as SentAt says
---     sent-heard      receiving what was sent gives back content and kind, at place 0, as the first position tried
---     among-heard     the same where it stands behind other bytes and the call reaches it
---     heard-sent      sending what was received gives back the chips that were received
-use mathlib.Core.Bool.{Bool, true, false, cond}
+--     sendingOf-accepts    sending, where content and room are right; sendingOf-accepted: and nothing else is accepted
+--     sentAt-among         what was sent stands among other bytes as SentAt says
+--     receivingOf-among    so it is received there, where the call reaches it
+--     sent-heard           receiving what was sent gives back content and kind, at place 0, as the first position tried
+--     heard-sent           sending what was received gives back the chips that were received
 use mathlib.Core.List.{List, [], _++_}
 use mathlib.Core.Path.{_≡_, refl, ap, sym, _∙_}
 use Prim.Native.Nat.{ℕ, _+_, _*_, _≤_, _<_}
-use native.Mathlib.Nat.{not-suc-le-zero}
+use native.Mathlib.Nat.{zero-add}
 use native.Mathlib.Omega.{arith}
 use borrow.Author.Tests.{le-ltb, ltb-false}
 use lib.Dec.{ltb}
 use lib.ListN.{length, drop, length-append, length-drop}
-use Rattle.ground.specs.Outcome.{Outcome}
-use Rattle.ground.proofs.ByteLaws.{Bytes}
-use Rattle.chips.specs.Chips.{chipAt, wordAt, gather, roomLimit}
-use Rattle.chips.proofs.PackingLaws.{gather-same, chipAt-middle}
-use Rattle.line.specs.Encoding.{encoding}
+use Rattle.answers.specs.Outcome.{Outcome}
+use Rattle.answers.specs.declared.Refusal.{Refusal}
+use Rattle.answers.specs.declared.Written.{Written}
+use Rattle.ground.specs.Bytes.{Bytes}
+use Rattle.chips.specs.Chips.{chipAt, roomLimit}
+use Rattle.chips.proofs.PackingLaws.{chipAt-middle}
+use Rattle.line.specs.Encoding.{encoding, encodedSize}
 use Rattle.line.proofs.TripLaws.{length-encoding}
 use Rattle.frame.specs.Formats.{formOf, within, frameSize}
 use Rattle.frame.specs.Frames.{frameOf}
 use Rattle.frame.proofs.FormatLaws.{within-true, true-within}
 use Rattle.frame.proofs.FrameLaws.{length-frameOf}
 use Rattle.sync.specs.declared.Kind.{Kind}
-use Rattle.sync.specs.declared.Kind.the-variants.{TWithA, CWithA, CWithB, ManchesterWithA}
-use Rattle.sync.specs.Kinds.{syncBytes, leadOf}
-use Rattle.sync.specs.FirstMatch.{FirstAt}
-use Rattle.sync.specs.SyncSearch.{syncWord, syncWidth}
-use Rattle.radio.specs.declared.Sent.{Sent}
-use Rattle.radio.specs.Kinds.{lineOf, formatOf}
+use Rattle.sync.specs.Kinds.{syncBytes}
+use Rattle.radio.specs.KindParts.{lineOf, formatOf}
 use Rattle.radio.specs.Sending.{airOf, airSize, putting, sendingOf, sentOf, sentChips, SentAt}
-use Rattle.radio.specs.Heard.{receivingOf, Reached, Heard, heardOf}
-use Rattle.radio.proofs.AirLaws.{sent-sync}
-use Rattle.radio.proofs.HeardLaws.{hears}
-
--- what is sent, in memory that held d before
-abbrev pub airIn : Kind → List ℕ → List ℕ → List ℕ
-airIn k c d = sentOf k c ++ drop (airSize k (frameSize (formatOf k) (length c))) d
+use Rattle.radio.specs.Heard.{searched, receivingOf, Reached, firstTry, Heard, heardOf}
+use Rattle.radio.proofs.KindLaws.{reached-sent}
+use Rattle.radio.proofs.HeardLaws.{receivingOf-heard}
+use Rattle.radio.proofs.PutLaws.{accepted-cond-true, accepted-cond-false}
 
 module _ (k : Kind) (c : List ℕ) where
-  pub length-sentOf : length (sentOf k c) ≡ airSize k (frameSize (formatOf k) (length c))
+  -- how many bytes sending c writes
+  abbrev sentSize : ℕ
+  sentSize = airSize k (frameSize (formatOf k) (length c))
+
+  length-sentOf : length (sentOf k c) ≡ sentSize
   unfolding airOf
   length-sentOf =
-      rw (length-append (syncBytes k) (encoding (lineOf k) (frameOf (formatOf k) c)), length-encoding (lineOf k) (frameOf (formatOf k) c), length-frameOf (formatOf k) c)
+      let frame = frameOf (formatOf k) c in
+      let coded = length-encoding (lineOf k) frame ∙ ap (encodedSize (lineOf k)) (length-frameOf (formatOf k) c) in
+      length-append (syncBytes k) (encoding (lineOf k) frame) ∙ ap (λ (x : ℕ). length (syncBytes k) + x) coded
+
+  -- memory that was sent into keeps its length
+  length-sentIn : (buf : List ℕ) → sentSize ≤ length buf → length (sentOf k c ++ drop sentSize buf) ≡ length buf
+  length-sentIn buf room =
+      omega (arith, length-append (sentOf k c) (drop sentSize buf), length-sentOf, length-drop sentSize buf)
 
   -- all chips that are sent lie in these bytes
   sentChips-le : sentChips k (length c) ≤ 8 * length (sentOf k c)
@@ -51,120 +56,99 @@ module _ (k : Kind) (c : List ℕ) where
   sentChips-le = omega (arith, length-sentOf)
 
   module _ (d : List ℕ) where
-    abbrev done : Outcome Sent
-    done = record { answer = Sent.Accepted (airSize k (frameSize (formatOf k) (length c))); memory = airIn k c d }
-
-    pub sending-accepts : formOf (formatOf k) .shortest ≤ length c → length c ≤ formOf (formatOf k) .longest
-        → airSize k (frameSize (formatOf k) (length c)) ≤ length d → sendingOf k c d ≡ done
+    sendingOf-accepts :
+        formOf (formatOf k) .shortest ≤ length c → length c ≤ formOf (formatOf k) .longest → sentSize ≤ length d
+        → sendingOf k c d ≡ record { answer = Written.Accepted sentSize; memory = sentOf k c ++ drop sentSize d }
     unfolding sendingOf putting
-    sending-accepts low high room =
-        rw (within-true (formOf (formatOf k) .shortest) (formOf (formatOf k) .longest) (length c) low high, length-frameOf (formatOf k) c, le-ltb (length d) (airSize k (frameSize (formatOf k) (length c))) room)
+    sendingOf-accepts low high room =
+        let allowed = within-true (formOf (formatOf k) .shortest) (formOf (formatOf k) .longest) (length c) low high in
+        rw (allowed, length-frameOf (formatOf k) c, le-ltb (length d) sentSize room)
 
-    pub record Sending (y : ℕ) : Type 0 where
-      pub size : y ≡ airSize k (frameSize (formatOf k) (length c))
-      pub low : formOf (formatOf k) .shortest ≤ length c
-      pub high : length c ≤ formOf (formatOf k) .longest
-      pub room : airSize k (frameSize (formatOf k) (length c)) ≤ length d
+    record Sendable : Type 0 where
+      low : formOf (formatOf k) .shortest ≤ length c
+      high : length c ≤ formOf (formatOf k) .longest
+      room : sentSize ≤ length d
 
-    pub sending-accepted : (y : ℕ) → sendingOf k c d .answer ≡ Sent.Accepted y → Sending y
-    unfolding sendingOf putting
-    sending-accepted y e =
-        by-tests (within (formOf (formatOf k) .shortest) (formOf (formatOf k) .longest) (length c)) refl (ltb (length d) (airSize k (length (frameOf (formatOf k) c)))) refl e
-      where
-        by-tests : (w : Bool) → within (formOf (formatOf k) .shortest) (formOf (formatOf k) .longest) (length c) ≡ w
-            → (r : Bool) → ltb (length d) (airSize k (length (frameOf (formatOf k) c))) ≡ r
-            → cond {A = Outcome Sent} w
-            (cond r (record { answer = Sent.NoRoom; memory = d })
-            (record { answer = Sent.Accepted (airSize k (length (frameOf (formatOf k) c))); memory = airOf k (frameOf (formatOf k) c) ++ drop (airSize k (length (frameOf (formatOf k) c))) d }))
-            (record { answer = Sent.BadContent; memory = d }) .answer ≡ Sent.Accepted y
-            → Sending y
-        by-tests true f false g h =
-            let both = true-within (formOf (formatOf k) .shortest) (formOf (formatOf k) .longest) (length c) f in
-            let same : airSize k (length (frameOf (formatOf k) c)) ≡ y = cc in
-            record { size = sym same ∙ ap (airSize k) (length-frameOf (formatOf k) c); low = both .0; high = both .1; room = rw (length-frameOf (formatOf k) c) at (ltb-false (length d) (airSize k (length (frameOf (formatOf k) c))) g) }
-        by-tests true f true g h = absurd (no h)
-          where
-            no : Sent.NoRoom ≡ Sent.Accepted y → ⊥
-            no q = let one : _≡_ {A = ℕ} 0 1 = cc in omega arith
-        by-tests false f r g h = absurd (no h)
-          where
-            no : Sent.BadContent ≡ Sent.Accepted y → ⊥
-            no q = let one : _≡_ {A = ℕ} 0 1 = cc in omega arith
+    putting-accepted :
+        (p : List ℕ) {y : ℕ} → putting k p d .answer ≡ Written.Accepted y → airSize k (length p) ≤ length d
+    unfolding putting
+    putting-accepted p e =
+        let size = airSize k (length p) in
+        let put : Outcome Written = record { answer = Written.Accepted size; memory = airOf k p ++ drop size d } in
+        ltb-false (length d) size (accepted-cond-false (ltb (length d) size) Refusal.NoRoom d put e .0)
 
-  pub sent-among : (pre post : List ℕ) → Bytes c → formOf (formatOf k) .shortest ≤ length c → length c ≤ formOf (formatOf k) .longest
-      → SentAt k (pre ++ (sentOf k c ++ post)) (8 * length pre) c
-  sent-among pre post bytes low high =
-      record {
-        bytes = bytes;
-        low = low;
-        high = high;
-        whole = omega (arith, sentChips-le, length-append pre (sentOf k c ++ post), length-append (sentOf k c) post);
-        chips = λ i h. chipAt-middle pre (sentOf k c) post i (omega (arith, sentChips-le));
-      }
+    sendingOf-accepted : {y : ℕ} → sendingOf k c d .answer ≡ Written.Accepted y → Sendable
+    unfolding sendingOf
+    sendingOf-accepted e =
+        let allowed = within (formOf (formatOf k) .shortest) (formOf (formatOf k) .longest) (length c) in
+        let tests = accepted-cond-true allowed Refusal.BadContent d (putting k (frameOf (formatOf k) c) d) e in
+        let both = true-within (formOf (formatOf k) .shortest) (formOf (formatOf k) .longest) (length c) (tests .0) in
+        let room = rw (length-frameOf (formatOf k) c) at (putting-accepted (frameOf (formatOf k) c) (tests .1)) in
+        record { low = both .0; high = both .1; room = room }
 
--- how many positions are tried where the frame stands at the start
-abbrev pub firstTry : Kind → ℕ
-firstTry TWithA = 1
-firstTry CWithA = 1
-firstTry CWithB = 1
-firstTry ManchesterWithA = 0
-
--- sync chips at place 0 are the first match
-first-at : (k : Kind) (s c : List ℕ) (a : ℕ) → 16 ≤ leadOf k → wordAt (syncBytes k) 0 16 ≡ syncWord → SentAt k s 0 c → 0 < a → FirstAt syncWord syncWidth s 0 a 0 1
-unfolding sentChips
-first-at k s c a lead word p h =
-    record {
-      behind = omega arith;
-      whole = omega (arith, p .whole);
-      stands =
-          gather-same (chipAt s) (chipAt (syncBytes k)) 0 0 16
-          (λ i l. let here : 0 + i ≡ i = omega arith in sent-sync k c s 0 p i (omega arith) ∙ ap (chipAt (syncBytes k)) (sym here))
-          ∙ word;
-      first = λ j l m e. not-suc-le-zero m;
-      counted = omega arith;
-      allowed = omega arith;
-    }
-
-at-once : (k : Kind) (s c : List ℕ) (a : ℕ) → SentAt k s 0 c → 0 < a → Reached k s 0 a 0 (firstTry k)
-unfolding gather
-at-once TWithA s c a p h = first-at TWithA s c a (omega arith) refl p h
-at-once CWithA s c a p h = first-at CWithA s c a (omega arith) refl p h
-at-once CWithB s c a p h = first-at CWithB s c a (omega arith) refl p h
-at-once ManchesterWithA s c a p h = (refl, refl)
+  module _ (bytes : Bytes c) (low : formOf (formatOf k) .shortest ≤ length c) where
+    sentAt-among :
+        length c ≤ formOf (formatOf k) .longest → (pre post : List ℕ)
+        → SentAt k (pre ++ (sentOf k c ++ post)) (8 * length pre) c
+    sentAt-among high pre post =
+        record {
+          bytes = bytes;
+          low = low;
+          high = high;
+          whole = omega (arith, sentChips-le, length-append pre (sentOf k c ++ post), length-append (sentOf k c) post);
+          chips = λ i h. chipAt-middle pre (sentOf k c) post i (omega (arith, sentChips-le));
+        }
 
 module _ (k : Kind) (c d : List ℕ) (bytes : Bytes c) (room : length c ≤ length d) where
-  pub among-heard : (pre post : List ℕ) (start a t : ℕ) → formOf (formatOf k) .shortest ≤ length c → length c ≤ formOf (formatOf k) .longest
-      → length (pre ++ (sentOf k c ++ post)) ≤ roomLimit → Reached k (pre ++ (sentOf k c ++ post)) start a (8 * length pre) t
-      → receivingOf k (pre ++ (sentOf k c ++ post)) start a d ≡ heardOf k (8 * length pre) t (frameSize (formatOf k) (length c)) c d
-  among-heard pre post start a t low high small reached =
-      hears (pre ++ (sentOf k c ++ post)) start a d k (8 * length pre) t (frameSize (formatOf k) (length c)) (length c) c
-      (record { small = small; reached = reached; sent = sent-among k c pre post bytes low high; count = refl; size = refl; room = room })
+  pub receivingOf-among :
+      (pre post : List ℕ) (start a t : ℕ) → formOf (formatOf k) .shortest ≤ length c
+      → length c ≤ formOf (formatOf k) .longest → let s = pre ++ (sentOf k c ++ post) in
+      length s ≤ roomLimit → Reached (searched k) s start a (8 * length pre) t
+      → receivingOf k s start a d ≡ heardOf k (8 * length pre) t (frameSize (formatOf k) (length c)) c d
+  receivingOf-among pre post start a t low high small reached =
+      let sent = sentAt-among k c bytes low high pre post in
+      receivingOf-heard (pre ++ (sentOf k c ++ post)) start a d
+      (record { small = small; reached = reached; sent = sent; count = refl; size = refl; room = room })
 
-  pub sent-heard : (buf : List ℕ) (a y : ℕ) → length buf ≤ roomLimit → 0 < a → sendingOf k c buf .answer ≡ Sent.Accepted y
-      → receivingOf k (sendingOf k c buf .memory) 0 a d ≡ heardOf k 0 (firstTry k) (frameSize (formatOf k) (length c)) c d
+  pub sent-heard :
+      (buf : List ℕ) (a y : ℕ) → length buf ≤ roomLimit → 0 < a → sendingOf k c buf .answer ≡ Written.Accepted y
+      → receivingOf k (sendingOf k c buf .memory) 0 a d
+      ≡ heardOf k 0 (firstTry k) (frameSize (formatOf k) (length c)) c d
   sent-heard buf a y small some e =
-      let p : Sending k c buf y = sending-accepted k c buf y e in
-      let rest = drop (airSize k (frameSize (formatOf k) (length c))) buf in
-      let memory : sendingOf k c buf .memory ≡ sentOf k c ++ rest = ap (λ (o : Outcome Sent). o .memory) (sending-accepts k c buf (p .low) (p .high) (p .room)) in
-      let sent : SentAt k (sentOf k c ++ rest) 0 c = sent-among k c [] rest bytes (p .low) (p .high) in
-      let long : length (sentOf k c ++ rest) ≤ roomLimit =
-      omega (arith, length-append (sentOf k c) rest, length-sentOf k c, length-drop (airSize k (frameSize (formatOf k) (length c))) buf, p .room) in
+      let p = sendingOf-accepted k c buf e in
+      let memory = ap (λ (o : Outcome Written). o .memory) (sendingOf-accepts k c buf (p .low) (p .high) (p .room)) in
+      let rest = drop (sentSize k c) buf in
+      let reached = reached-sent k (sentAt-among k c bytes (p .low) (p .high) [] rest) some in
+      let fits : length (sentOf k c ++ rest) ≤ roomLimit = rw (length-sentIn k c buf (p .room)) small in
       ap (λ (s : List ℕ). receivingOf k s 0 a d) memory
-      ∙ among-heard [] rest 0 a (firstTry k) (p .low) (p .high) long (at-once k (sentOf k c ++ rest) c a sent some)
+      ∙ receivingOf-among [] rest 0 a (firstTry k) (p .low) (p .high) fits reached
 
-pub heard-sent : (s : List ℕ) (start a : ℕ) (d : List ℕ) (k : Kind) (place t z n : ℕ) (c out : List ℕ) → Heard s start a d k place t z n c → airSize k z ≤ length out
-    → (sendingOf k c out .answer ≡ Sent.Accepted (airSize k z)) × ((i : ℕ) → i < sentChips k n → chipAt (sendingOf k c out .memory) i ≡ chipAt s (place + i))
-heard-sent s start a d k place t z n c out h room =
-    let p = h .sent in
-    let size : frameSize (formatOf k) (length c) ≡ z = ap (frameSize (formatOf k)) (h .count) ∙ sym (h .size) in
-    let done = sending-accepts k c out (p .low) (p .high) (rw size room) in (
-      ap (λ (o : Outcome Sent). o .answer) done ∙ ap (λ (y : ℕ). Sent.Accepted (airSize k y)) size,
-      λ i l.
-          let inside : i < sentChips k (length c) = rw (h .count) l in
-          let rest = drop (airSize k (frameSize (formatOf k) (length c))) out in
-          let here : 0 + i ≡ i = omega arith in
-          ap (λ (o : Outcome Sent). chipAt (o .memory) i) done
-          ∙ ap (chipAt (sentOf k c ++ rest)) (sym here)
-          ∙ chipAt-middle [] (sentOf k c) rest i (omega (arith, sentChips-le k c))
-          ∙ sym (p .chips i inside),
-    )
+-- the first chips of memory that was sent into
+chipAt-sentIn :
+    (k : Kind) (c rest : List ℕ) (i : ℕ) → i < sentChips k (length c)
+    → chipAt (sentOf k c ++ rest) i ≡ chipAt (sentOf k c) i
+chipAt-sentIn k c rest i h =
+    ap (chipAt (sentOf k c ++ rest)) (sym (zero-add i))
+    ∙ chipAt-middle [] (sentOf k c) rest i (omega (arith, sentChips-le k c))
+
+sendingOf-heard :
+    {s : List ℕ} {start a : ℕ} {d : List ℕ} {k : Kind} {place t z n : ℕ} {c : List ℕ}
+    → Heard s start a d k place t z n c → (out : List ℕ) → let y = airSize k z in y ≤ length out
+    → sendingOf k c out ≡ record { answer = Written.Accepted y; memory = sentOf k c ++ drop y out }
+sendingOf-heard {k = k} {c = c} h out room =
+    let size = ap (frameSize (formatOf k)) (h .count) ∙ sym (h .size) in
+    rw size at (sendingOf-accepts k c out (h .sent .low) (h .sent .high) (rw size room))
+
+pub heard-sent :
+    (s : List ℕ) (start a : ℕ) (d : List ℕ) (k : Kind) (place t z n : ℕ) (c out : List ℕ)
+    → Heard s start a d k place t z n c → airSize k z ≤ length out
+    → (sendingOf k c out .answer ≡ Written.Accepted (airSize k z))
+    × ((i : ℕ) → i < sentChips k n → chipAt (sendingOf k c out .memory) i ≡ chipAt s (place + i))
+heard-sent s start a d k place t z n c out h room = (
+  ap (λ (o : Outcome Written). o .answer) (sendingOf-heard h out room),
+  λ i l.
+      let inside : i < sentChips k (length c) = rw (h .count) l in
+      ap (λ (o : Outcome Written). chipAt (o .memory) i) (sendingOf-heard h out room)
+      ∙ chipAt-sentIn k c (drop (airSize k z) out) i inside
+      ∙ sym (h .sent .chips i inside),
+)

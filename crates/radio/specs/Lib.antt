@@ -1,4 +1,4 @@
-pub mod Kinds
+pub mod KindParts
 pub mod Receiving
 pub mod Sending
 pub mod Heard

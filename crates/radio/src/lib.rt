@@ -1,23 +1,22 @@
 // Frames in chips: receive and send (EN 13757-4:2019, 6.4, 7.4.2, 9.4; document 01, "Sync search", "Answer numbers").
 ghost use mathlib.Core.Path.{_≡_};
 ghost use mathlib.Core.List.{_++_, _∷_};
-ghost use Prim.Native.Nat.{_+_, _≤_};
+ghost use Prim.Native.Nat.{_+_, _^_, _≤_, _<_};
 ghost use lib.ListN.{length, take, drop};
-ghost use Rattle.ground.specs.Outcome.{Outcome};
-ghost use Rattle.chips.specs.Chips.{chipCount, roomLimit};
+ghost use Rattle.answers.specs.Outcome.{Outcome};
+ghost use Rattle.answers.specs.declared.Written.{Written};
 ghost use Rattle.line.specs.Encoding.{encoded};
+ghost use Rattle.frame.specs.declared.Frame.{Frame};
 ghost use Rattle.sync.specs.Kinds.{leadOf, syncBytes};
-ghost use Rattle.radio.specs.Kinds.{codeFor, formatOf, lineOf};
-ghost use Rattle.radio.specs.Receiving.{answerOf, frameAfter, bySize, receptionOf, manchesterOf};
+ghost use Rattle.radio.specs.KindParts.{codeFor, formatOf, lineOf};
+ghost use Rattle.radio.specs.Receiving.{frameAfter, bySize, receptionOf, manchesterOf};
 ghost use Rattle.radio.specs.Sending.{sendingOf, putting};
-ghost use Rattle.frame.specs.declared.FrameSize.{FrameSize};
+use answers::Refusal;
+use answers::Written;
 use frame::Format;
-use frame::FrameSize;
-use frame::Reading;
-use frame::Written;
+use frame::Frame;
 use line::Code;
 use line::Decoded;
-use line::Encoded;
 use sync::Kind;
 use sync::Sync;
 use sync::Tail;
@@ -34,31 +33,7 @@ pub enum Reception {
         size: usize,
         n: usize,
     },
-    // The chips end before the frame or its sync tail.
-    Short,
-    // The length byte is not allowed.
-    BadLength,
-    // The first wrong block, from 1.
-    WrongCheck(usize),
-    // The lent memory is smaller than the content.
-    NoRoom,
-    // The place of the first word that is no code word, counted from the frame's first word.
-    BadWord(usize),
-    // Every position was tried, this many.
-    NoSync(usize),
-    // The place of the sync word whose tail is unknown.
-    UnknownTail(usize),
-    // The buffer is too long, or the start lies behind it.
-    OutOfRange,
-    // The allowance, this many positions, was used up.
-    UsedUp(usize),
-}
-
-// What sending answers: the bytes written.
-pub enum Sent {
-    Accepted(usize),
-    NoRoom,
-    BadContent,
+    Refused(Refusal),
 }
 
 // The largest frame: format A with 255 bytes of content.
@@ -100,102 +75,67 @@ fn lead(kind: Kind) -> usize
     }
 }
 
-// The answer of a reading, with what is known of the chips.
-fn answer(kind: Kind, place: usize, tried: usize, read: Reading) -> Reception
-    ensures { λ r. ⌜ r ≡ answerOf kind place tried read ⌝ }
-{
-    match read {
-        Reading::Accepted { size, n } => Reception::Accepted {
-            kind,
-            place,
-            tried,
-            size,
-            n,
-        },
-        Reading::Short => Reception::Short,
-        Reading::BadLength => Reception::BadLength,
-        Reading::WrongCheck(block) => Reception::WrongCheck(block),
-        Reading::NoRoom => Reception::NoRoom,
-    }
-}
-
 // The whole frame of `size` bytes: its chips, its words, then its bytes, decoded beside the lent memory.
-fn whole(
-    kind: Kind,
-    place: usize,
-    tried: usize,
-    s: &[u8],
-    size: usize,
-    n: usize,
-    out: &mut [u8],
-) -> Reception
-    requires { ⌜ ((length (now s) ≤ roomLimit) × (place + leadOf kind ≤ chipCount (now s))) × (size ≤ 290) ⌝ }
+fn whole(kind: Kind, place: usize, tried: usize, s: &[u8], size: usize, out: &mut [u8]) -> Reception
+    requires { ⌜ (place + leadOf kind < 2 ^ 64) × (size ≤ 290) ⌝ }
     ensures { λ r.
-        ⌜ _≡_ {A = Outcome Reception} (record { answer = r; memory = now (out .exit) }) (bySize kind place tried (now (s .entry)) (now (out .entry)) (FrameSize.Bytes size n)) ⌝ }
+        ⌜ _≡_ {A = Outcome Reception} (record { answer = r; memory = now (out .exit) })
+        (bySize kind place tried (now (s .entry)) (now (out .entry)) (Frame.Accepted size 0)) ⌝ }
 {
     let mut bytes = [0u8; FRAME];
     match line::decode(code_of(kind), s, place + lead(kind), size, &mut bytes) {
-        Decoded::Accepted => answer(
-            kind,
-            place,
-            tried,
-            frame::read(format_of(kind), &bytes[..size], out),
-        ),
-        Decoded::Short => Reception::Short,
-        Decoded::BadWord(i) => Reception::BadWord(i),
-        Decoded::NoRoom => Reception::NoRoom,
-        Decoded::OutOfRange => Reception::OutOfRange,
+        Decoded::Accepted => match frame::read(format_of(kind), &bytes[..size], out) {
+            Frame::Accepted { size, n } => Reception::Accepted {
+                kind,
+                place,
+                tried,
+                size,
+                n,
+            },
+            Frame::Refused(refusal) => Reception::Refused(refusal),
+        },
+        Decoded::Refused(refusal) => Reception::Refused(refusal),
     }
 }
 
 // The frame of a kind behind its sync chips at `place`: the first byte, which has the length, then the whole.
 fn frame_after(kind: Kind, place: usize, tried: usize, s: &[u8], out: &mut [u8]) -> Reception
-    requires { ⌜ (length (now s) ≤ roomLimit) × (place + leadOf kind ≤ chipCount (now s)) ⌝ }
+    requires { ⌜ place + leadOf kind < 2 ^ 64 ⌝ }
     ensures { λ r.
-        ⌜ _≡_ {A = Outcome Reception} (record { answer = r; memory = now (out .exit) }) (frameAfter kind place tried (now (s .entry)) (now (out .entry))) ⌝ }
+        ⌜ _≡_ {A = Outcome Reception} (record { answer = r; memory = now (out .exit) })
+        (frameAfter kind place tried (now (s .entry)) (now (out .entry))) ⌝ }
 {
     let mut first = [0u8; 1];
     match line::decode(code_of(kind), s, place + lead(kind), 1, &mut first) {
         Decoded::Accepted => match format_of(kind).frame_size(first[0]) {
-            FrameSize::Bytes { size, n } => whole(kind, place, tried, s, size, n, out),
-            FrameSize::BadLength => Reception::BadLength,
+            Frame::Accepted { size, n: _ } => whole(kind, place, tried, s, size, out),
+            Frame::Refused(refusal) => Reception::Refused(refusal),
         },
-        Decoded::Short => Reception::Short,
-        Decoded::BadWord(i) => Reception::BadWord(i),
-        Decoded::NoRoom => Reception::NoRoom,
-        Decoded::OutOfRange => Reception::OutOfRange,
+        Decoded::Refused(refusal) => Reception::Refused(refusal),
     }
 }
 
 // A frame of mode T or C, searched from `start` on over at most `allowance` positions.
 pub fn receive(s: &[u8], start: usize, allowance: usize, out: &mut [u8]) -> Reception
     ensures { λ r.
-        ⌜ _≡_ {A = Outcome Reception} (record { answer = r; memory = now (out .exit) }) (receptionOf (now (s .entry)) start allowance (now (out .entry))) ⌝ }
+        ⌜ _≡_ {A = Outcome Reception} (record { answer = r; memory = now (out .exit) })
+        (receptionOf (now (s .entry)) start allowance (now (out .entry))) ⌝ }
 {
     match sync::search(s, start, allowance) {
         Sync::Found { place, tried } => match sync::tail_at(s, place) {
             Tail::Begins(kind) => frame_after(kind, place, tried, s, out),
-            Tail::Short => Reception::Short,
-            Tail::UnknownTail(at) => Reception::UnknownTail(at),
-            Tail::OutOfRange => Reception::OutOfRange,
+            Tail::Refused(refusal) => Reception::Refused(refusal),
         },
-        Sync::NoSync(tried) => Reception::NoSync(tried),
-        Sync::UsedUp(tried) => Reception::UsedUp(tried),
-        Sync::OutOfRange => Reception::OutOfRange,
+        Sync::Refused(refusal) => Reception::Refused(refusal),
     }
 }
 
-// A Manchester frame whose first chip stands at `start`.
+// A Manchester frame whose first chip stands at `start`: decoding its first byte judges the start.
 pub fn receive_manchester(s: &[u8], start: usize, out: &mut [u8]) -> Reception
     ensures { λ r.
-        ⌜ _≡_ {A = Outcome Reception} (record { answer = r; memory = now (out .exit) }) (manchesterOf (now (s .entry)) start (now (out .entry))) ⌝ }
+        ⌜ _≡_ {A = Outcome Reception} (record { answer = r; memory = now (out .exit) })
+        (manchesterOf (now (s .entry)) start (now (out .entry))) ⌝ }
 {
-    if s.len() > 1024 {
-        return Reception::OutOfRange;
-    }
-    if start > s.len() * 8 {
-        return Reception::OutOfRange;
-    }
     frame_after(Kind::ManchesterWithA, start, 0, s, out)
 }
 
@@ -233,41 +173,44 @@ fn put_sync(kind: Kind, out: &mut [u8])
 }
 
 // The chips of p from byte `start` of the lent memory on.
-fn code_behind(kind: Kind, p: &[u8], start: usize, out: &mut [u8]) -> Encoded
+fn code_behind(kind: Kind, p: &[u8], start: usize, out: &mut [u8]) -> Written
     requires { ⌜ start ≤ length (now out) ⌝ }
     ensures { λ r.
-        ⌜ _≡_ {A = Outcome Encoded} (record { answer = r; memory = now (out .exit) }) (record { answer = encoded (lineOf kind) (now (p .entry)) (drop start (now (out .entry))) .answer; memory = take start (now (out .entry)) ++ encoded (lineOf kind) (now (p .entry)) (drop start (now (out .entry))) .memory }) ⌝ }
+        ⌜ _≡_ {A = Outcome Written} (record { answer = r; memory = now (out .exit) })
+        (let o = encoded (lineOf kind) (now (p .entry)) (drop start (now (out .entry))) in
+        record { answer = o .answer; memory = take start (now (out .entry)) ++ o .memory }) ⌝ }
 {
     line::encode(code_of(kind), p, &mut out[start..])
 }
 
 // The frame p as chips behind its sync chips. The line code judges the room, so that nothing is written too early.
-fn put(kind: Kind, p: &[u8], out: &mut [u8]) -> Sent
+fn put(kind: Kind, p: &[u8], out: &mut [u8]) -> Written
     ensures { λ r.
-        ⌜ _≡_ {A = Outcome Sent} (record { answer = r; memory = now (out .exit) }) (putting kind (now (p .entry)) (now (out .entry))) ⌝ }
+        ⌜ _≡_ {A = Outcome Written} (record { answer = r; memory = now (out .exit) })
+        (putting kind (now (p .entry)) (now (out .entry))) ⌝ }
 {
     let start = lead(kind) / 8;
     if out.len() < start {
-        return Sent::NoRoom;
+        return Written::Refused(Refusal::NoRoom);
     }
     match code_behind(kind, p, start, out) {
-        Encoded::Accepted(size) => {
+        Written::Accepted(size) => {
             put_sync(kind, out);
-            Sent::Accepted(start + size)
+            Written::Accepted(start + size)
         }
-        Encoded::NoRoom => Sent::NoRoom,
+        Written::Refused(refusal) => Written::Refused(refusal),
     }
 }
 
 // The content as a frame in chips.
-pub fn send(kind: Kind, content: &[u8], out: &mut [u8]) -> Sent
+pub fn send(kind: Kind, content: &[u8], out: &mut [u8]) -> Written
     ensures { λ r.
-        ⌜ _≡_ {A = Outcome Sent} (record { answer = r; memory = now (out .exit) }) (sendingOf kind (now (content .entry)) (now (out .entry))) ⌝ }
+        ⌜ _≡_ {A = Outcome Written} (record { answer = r; memory = now (out .exit) })
+        (sendingOf kind (now (content .entry)) (now (out .entry))) ⌝ }
 {
     let mut bytes = [0u8; FRAME];
     match frame::write(format_of(kind), content, &mut bytes) {
         Written::Accepted(size) => put(kind, &bytes[..size], out),
-        Written::NoRoom => Sent::NoRoom,
-        Written::BadContent => Sent::BadContent,
+        Written::Refused(refusal) => Written::Refused(refusal),
     }
 }

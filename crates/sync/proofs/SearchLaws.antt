@@ -1,10 +1,12 @@
 -- The sync search (specs/SyncSearch) is the first match (specs/FirstMatch), for any sync word v of w chips.
---     searchFor-long, -behind          the buffer is too long, the start lies behind it
+--     Nowhere v w s start m            the word stands at none of the m places from `start` on
+--     searchFor-outside                the buffer is too long, or the start lies behind it
 --     searchFor-found, -all, -used     its answer by what was passed over: as a search has it at hand
---     found-first, first-found         it answers Found exactly where the word stands first, within the allowance
---     nosync-nowhere, nowhere-nosync   it answers NoSync exactly where the word stands at no position and all are allowed
---     usedup-nowhere, nowhere-usedup   it answers UsedUp exactly where it stands at none of those allowed, and some are left
-use mathlib.Core.Bool.{Bool, true, false, cond}
+--     searchFor-ends                   every way in which a search ends, with its answer
+--     found-first, first-found         Found exactly where the word stands first, within the allowance
+--     nosync-nowhere, nowhere-nosync   NoSync exactly where the word stands at no position and all are allowed
+--     usedup-nowhere, nowhere-usedup   UsedUp exactly where it stands at none of those allowed, and some are left
+use mathlib.Core.Bool.{false}
 use mathlib.Core.Path.{_≡_, refl, sym, _∙_}
 use mathlib.Core.List.{List}
 use Prim.Native.Nat.{ℕ, _+_, _-_, _≤_, _<_, min}
@@ -12,157 +14,139 @@ use native.Mathlib.Omega.{arith}
 use borrow.Author.Tests.{lt-ltb, le-ltb, le-leb, lt-leb, ltb-true, ltb-false, leb-true, leb-false, eqb-true, eqb-false, eq-eqb, ne-eqb}
 use lib.Dec.{ltb, leb}
 use lib.ListN.{length}
-use Rattle.ground.proofs.CaseLaws.{clash}
-use Rattle.chips.specs.Chips.{wordAt, chipCount, roomLimit}
-use Rattle.sync.specs.SyncSearch.{passed, standsAt, positions, reach, outcomeOf, nowhere, searchFor}
-use Rattle.sync.specs.FirstMatch.{FirstAt, Nowhere}
+use Rattle.answers.specs.declared.Refusal.the-variants.{NoSync, UsedUp, OutOfRange}
+use Rattle.chips.specs.Chips.{wordAt, roomLimit, inRange}
+use Rattle.chips.proofs.RangeLaws.{InBuffer, inRange-inside}
+use Rattle.sync.specs.SyncSearch.{passed, standsAt, positions, answerAfter, searchFor}
+use Rattle.sync.specs.FirstMatch.{FirstAt}
 use Rattle.sync.specs.declared.Sync.{Sync}
-use Rattle.sync.specs.declared.Sync.the-variants.{Found, NoSync, UsedUp, OutOfRange}
-use Rattle.sync.proofs.PassedLaws.{passed-stands, passed-misses, passed-first, passed-none}
+use Rattle.sync.specs.declared.Sync.the-variants.{Found, Refused}
+use Rattle.sync.proofs.PassedLaws.{by-test, passed-stands, passed-misses, passed-first, passed-none}
+
+abbrev pub Nowhere : ℕ → ℕ → List ℕ → ℕ → ℕ → Type 0
+Nowhere v w s start m = (j : ℕ) → start ≤ j → j < start + m → wordAt s j w ≡ v → ⊥
+
+-- what a search has at hand when its walk is over: p positions, m of them allowed, i passed over
+pub record Scanned (v w : ℕ) (s : List ℕ) (start a p m i : ℕ) : Type 0 where
+  pub within : InBuffer s start
+  pub there : p ≡ positions w s start
+  pub most : m ≡ min a p
+  pub over : i ≡ passed (standsAt v w s) start m
+
+module _ {v w : ℕ} {s : List ℕ} {start a p m i : ℕ} (q : Scanned v w s start a p m i) where
+  searchFor-after : searchFor v w s start a ≡ answerAfter start a p i
+  unfolding searchFor
+  searchFor-after = rw (inRange-inside (q .within), ← q .there, ← q .most, ← q .over)
+
+  pub searchFor-found : i < m → searchFor v w s start a ≡ Found (start + i) (i + 1)
+  searchFor-found l = searchFor-after ∙ rw (← q .most, lt-ltb i m l)
+
+  pub searchFor-all : m ≤ i → p ≤ a → searchFor v w s start a ≡ Refused (NoSync p)
+  searchFor-all l k = searchFor-after ∙ rw (← q .most, le-ltb i m l, le-leb p a k)
+
+  pub searchFor-used : m ≤ i → a < p → searchFor v w s start a ≡ Refused (UsedUp a)
+  searchFor-used l k = searchFor-after ∙ rw (← q .most, le-ltb i m l, lt-leb p a k)
 
 module _ (v w : ℕ) (s : List ℕ) (start a : ℕ) where
-  pub searchFor-long : roomLimit < length s → searchFor v w s start a ≡ OutOfRange
+  pub searchFor-outside : inRange s start ≡ false → searchFor v w s start a ≡ Refused OutOfRange
   unfolding searchFor
-  searchFor-long h = rw (lt-leb (length s) roomLimit h)
+  searchFor-outside e = rw e
 
-  pub searchFor-behind : chipCount s < start → searchFor v w s start a ≡ OutOfRange
-  unfolding searchFor
-  searchFor-behind h = rw (lt-leb start (chipCount s) h) (either (leb (length s) roomLimit) _)
-    where
-      either : (t : Bool) (o : Sync) → cond (cond t false false) o OutOfRange ≡ OutOfRange
-      either true o = refl
-      either false o = refl
+  -- the positions, how many of them may be tried, and how many of those are passed over
+  abbrev there : ℕ
+  there = positions w s start
 
-  pub searchFor-in : length s ≤ roomLimit → start ≤ chipCount s
-      → searchFor v w s start a
-      ≡ outcomeOf start a (positions w s start) (passed (standsAt v w s) start (reach a (positions w s start)))
-  unfolding searchFor
-  searchFor-in h g = rw (le-leb (length s) roomLimit h, le-leb start (chipCount s) g)
-
-  -- p positions, m of them allowed, i passed over
-  module _ (p m i : ℕ) (h : length s ≤ roomLimit) (g : start ≤ chipCount s) (ep : p ≡ positions w s start) (em : m ≡ min a p) (ei : i ≡ passed (standsAt v w s) start m) where
-    at-hand : searchFor v w s start a ≡ outcomeOf start a p i
-    at-hand = searchFor-in h g ∙ rw (← ep, ← em, ← ei)
-
-    pub searchFor-found : i < m → searchFor v w s start a ≡ Found (start + i) (i + 1)
-    searchFor-found l = at-hand ∙ rw (← em, lt-ltb i m l)
-
-    pub searchFor-all : m ≤ i → p ≤ a → searchFor v w s start a ≡ NoSync p
-    searchFor-all l k = at-hand ∙ rw (← em, le-ltb i m l, le-leb p a k)
-
-    pub searchFor-used : m ≤ i → a < p → searchFor v w s start a ≡ UsedUp a
-    searchFor-used l k = at-hand ∙ rw (← em, le-ltb i m l, lt-leb p a k)
-
-  -- a search that answers anything but OutOfRange was in range
-  in-range : (n : Sync) → searchFor v w s start a ≡ n → (n ≡ OutOfRange → ⊥) → (length s ≤ roomLimit) × (start ≤ chipCount s)
-  unfolding searchFor
-  in-range n e miss =
-      by-tests (leb (length s) roomLimit) (leb start (chipCount s)) refl refl e
-    where
-      by-tests : (t u : Bool) → leb (length s) roomLimit ≡ t → leb start (chipCount s) ≡ u
-          → cond (cond t u false) (outcomeOf start a (positions w s start) (passed (standsAt v w s) start (reach a (positions w s start)))) OutOfRange ≡ n
-          → (length s ≤ roomLimit) × (start ≤ chipCount s)
-      by-tests true true d f g = (leb-true (length s) roomLimit d, leb-true start (chipCount s) f)
-      by-tests true false d f g = absurd (miss (sym g))
-      by-tests false u d f g = absurd (miss (sym g))
-
-  -- how many positions may be tried, and how many were passed over
   abbrev most : ℕ
-  most = reach a (positions w s start)
+  most = min a there
 
   abbrev gone : ℕ
   gone = passed (standsAt v w s) start most
 
-  -- what an answer says of the two tests that made it
-  found-test : (k t : ℕ) (b : Bool) → ltb gone most ≡ b → cond b (Found (start + gone) (gone + 1)) (nowhere a (positions w s start)) ≡ Found k t
-      → (gone < most) × ((k ≡ start + gone) × (t ≡ gone + 1))
-  found-test k t true e f = (ltb-true gone most e, (cc, cc))
-  found-test k t false e f = absurd (by-test (leb (positions w s start) a) f)
-    where
-      by-test : (b : Bool) → cond b (NoSync (positions w s start)) (UsedUp a) ≡ Found k t → ⊥
-      by-test true d = absurd (clash (cc))
-      by-test false d = absurd (clash (cc))
+  data Ends : Sync → Type 0 where
+    outside : Ends (Refused OutOfRange)
+    stops : gone < most → Ends (Found (start + gone) (gone + 1))
+    tries-all : most ≤ gone → there ≤ a → Ends (Refused (NoSync there))
+    tries-some : most ≤ gone → a < there → Ends (Refused (UsedUp a))
 
-  -- a place that was passed over
-  missed-at : (j : ℕ) → start ≤ j → j < start + gone → wordAt s j w ≡ v → ⊥
-  missed-at j l m d =
+  answer-ends : Ends (answerAfter start a there gone)
+  answer-ends =
+      by-test (ltb gone most) (λ e. rw e (stops (ltb-true gone most e)))
+      (λ e.
+      let all : most ≤ gone = ltb-false gone most e in
+      by-test (leb there a) (λ d. rw (e, d) (tries-all all (leb-true there a d)))
+      (λ d. rw (e, d) (tries-some all (leb-false there a d))))
+
+  searchFor-ends : Ends (searchFor v w s start a)
+  unfolding searchFor
+  searchFor-ends = by-test (inRange s start) (λ e. rw e answer-ends) (λ e. rw e outside)
+
+  -- the word stands at no place that was passed over
+  nowhere-passed : Nowhere v w s start gone
+  nowhere-passed j l m d =
       let q : start + (j - start) ≡ j = omega arith in
       eqb-false (wordAt s j w) v (rw q at (passed-misses (standsAt v w s) start most (j - start) (omega arith))) d
 
-  pub found-first : (k t : ℕ) → searchFor v w s start a ≡ Found k t → FirstAt v w s start a k t
-  found-first k t e =
-      let r = in-range (Found k t) e (λ d. absurd (clash (cc))) in
-      let f = found-test k t (ltb gone most) refl (sym (searchFor-in (r .0) (r .1)) ∙ e) in
+  passed-scanned : {i : ℕ} → InBuffer s start → i ≡ gone → Scanned v w s start a there most i
+  passed-scanned b over = record { within = b; there = refl; most = refl; over = over }
+
+  passed-lt-first : gone < most → FirstAt v w s start a (start + gone) (gone + 1)
+  passed-lt-first l =
       record {
         behind = omega arith;
         whole = omega arith;
-        stands = rw (f .1 .0) (eqb-true (wordAt s (start + gone) w) v (passed-stands (standsAt v w s) start most (f .0)));
-        first = λ j l m d. missed-at j l (omega arith) d;
+        stands = eqb-true (wordAt s (start + gone) w) v (passed-stands (standsAt v w s) start most l);
+        first = nowhere-passed;
         counted = omega arith;
         allowed = omega arith;
       }
 
+  found-end : {k t : ℕ} → Ends (Found k t) → FirstAt v w s start a k t
+  found-end (stops l) = passed-lt-first l
+
+  pub found-first : (k t : ℕ) → searchFor v w s start a ≡ Found k t → FirstAt v w s start a k t
+  found-first k t e = found-end (rw e at searchFor-ends)
+
+  passed-to : {k t : ℕ} → FirstAt v w s start a k t → k - start ≡ gone
+  passed-to {k} f =
+      let here : start + (k - start) ≡ k = omega (arith, f) in
+      let stands = eq-eqb (wordAt s (start + (k - start)) w) v (rw here (f .stands)) in
+      sym (passed-first (standsAt v w s) start most (k - start) (omega (arith, f)) stands
+      (λ j l. ne-eqb (wordAt s (start + j) w) v (f .first (start + j) (omega arith) (omega arith))))
+
   pub first-found : (k t : ℕ) → length s ≤ roomLimit → FirstAt v w s start a k t → searchFor v w s start a ≡ Found k t
   first-found k t h f =
-      let place : start + (k - start) ≡ k = omega (arith, f) in
-      let i : gone ≡ k - start =
-      passed-first (standsAt v w s) start most (k - start) (omega (arith, f)) (eq-eqb (wordAt s (start + (k - start)) w) v (rw place (f .stands))) (λ j l. ne-eqb (wordAt s (start + j) w) v (f .first (start + j) (omega arith) (omega arith))) in
-      let g : start ≤ chipCount s = omega (arith, f) in
-      let d : searchFor v w s start a ≡ Found (start + gone) (gone + 1) =
-      searchFor-found (positions w s start) most gone h g refl refl refl (omega (arith, f)) in
-      let ek : start + gone ≡ k = omega arith in
-      let et : gone + 1 ≡ t = omega (arith, f) in
-      d ∙ rw (ek, et)
+      let here : start + (k - start) ≡ k = omega (arith, f) in
+      let tried : k - start + 1 ≡ t = omega (arith, f) in
+      let in-buffer : InBuffer s start = record { small = h; inside = omega (arith, f) } in
+      searchFor-found (passed-scanned in-buffer (passed-to f)) (omega (arith, f)) ∙ rw (here, tried)
 
-  none-test : (n : Sync) (b : Bool) → ltb gone most ≡ b → ((k t : ℕ) → n ≡ Found k t → ⊥)
-      → cond b (Found (start + gone) (gone + 1)) (nowhere a (positions w s start)) ≡ n
-      → (most ≤ gone) × (nowhere a (positions w s start) ≡ n)
-  none-test n true e miss f = absurd (miss (start + gone) (gone + 1) (sym f))
-  none-test n false e miss f = (ltb-false gone most e, f)
+  nosync-end : {t : ℕ} → Ends (Refused (NoSync t)) → (t ≡ there) × ((t ≤ a) × Nowhere v w s start t)
+  nosync-end (tries-all l h) = (refl, (h, λ j b m. nowhere-passed j b (omega arith)))
 
-  -- all that may be tried were passed over: the word stands at none of them
-  missed : most ≤ gone → Nowhere v w s start most
-  missed l j b m d = missed-at j b (omega arith) d
-
-  pub nosync-nowhere : (t : ℕ) → searchFor v w s start a ≡ NoSync t
+  pub nosync-nowhere : (t : ℕ) → searchFor v w s start a ≡ Refused (NoSync t)
       → (t ≡ positions w s start) × ((t ≤ a) × Nowhere v w s start t)
-  nosync-nowhere t e =
-      let r = in-range (NoSync t) e (λ d. absurd (clash (cc))) in
-      let f = none-test (NoSync t) (ltb gone most) refl (λ k n d. absurd (clash (cc))) (sym (searchFor-in (r .0) (r .1)) ∙ e) in
-      let g = by-test (leb (positions w s start) a) refl (f .1) in
-      let m : t ≡ most = omega arith in
-      (g .0, (omega arith, rw m (missed (f .0))))
-    where
-      by-test : (b : Bool) → leb (positions w s start) a ≡ b → cond b (NoSync (positions w s start)) (UsedUp a) ≡ NoSync t
-          → (t ≡ positions w s start) × (positions w s start ≤ a)
-      by-test true d f = (cc, leb-true (positions w s start) a d)
-      by-test false d f = absurd (clash (cc))
+  nosync-nowhere t e = nosync-end (rw e at searchFor-ends)
 
-  pub usedup-nowhere : (t : ℕ) → searchFor v w s start a ≡ UsedUp t
+  usedup-end : {t : ℕ} → Ends (Refused (UsedUp t)) → (t ≡ a) × ((a < there) × Nowhere v w s start t)
+  usedup-end (tries-some l h) = (refl, (h, λ j b m. nowhere-passed j b (omega arith)))
+
+  pub usedup-nowhere : (t : ℕ) → searchFor v w s start a ≡ Refused (UsedUp t)
       → (t ≡ a) × ((a < positions w s start) × Nowhere v w s start t)
-  usedup-nowhere t e =
-      let r = in-range (UsedUp t) e (λ d. absurd (clash (cc))) in
-      let f = none-test (UsedUp t) (ltb gone most) refl (λ k n d. absurd (clash (cc))) (sym (searchFor-in (r .0) (r .1)) ∙ e) in
-      let g = by-test (leb (positions w s start) a) refl (f .1) in
-      let m : t ≡ most = omega arith in
-      (g .0, (g .1, rw m (missed (f .0))))
-    where
-      by-test : (b : Bool) → leb (positions w s start) a ≡ b → cond b (NoSync (positions w s start)) (UsedUp a) ≡ UsedUp t
-          → (t ≡ a) × (a < positions w s start)
-      by-test true d f = absurd (clash (cc))
-      by-test false d f = (cc, leb-false (positions w s start) a d)
+  usedup-nowhere t e = usedup-end (rw e at searchFor-ends)
 
-  passed-all : Nowhere v w s start most → gone ≡ most
-  passed-all miss = passed-none (standsAt v w s) start most (λ j l. ne-eqb (wordAt s (start + j) w) v (miss (start + j) (omega arith) (omega arith)))
+  passed-nowhere : Nowhere v w s start most → gone ≡ most
+  passed-nowhere miss =
+      passed-none (standsAt v w s) start most
+      (λ j l. ne-eqb (wordAt s (start + j) w) v (miss (start + j) (omega arith) (omega arith)))
 
-  pub nowhere-nosync : length s ≤ roomLimit → start ≤ chipCount s → positions w s start ≤ a
-      → Nowhere v w s start (positions w s start) → searchFor v w s start a ≡ NoSync (positions w s start)
-  nowhere-nosync h g l miss =
-      let m : most ≡ positions w s start = omega arith in
-      searchFor-all (positions w s start) most gone h g refl refl refl (omega (arith, passed-all (rw m miss))) l
+  pub nowhere-nosync : InBuffer s start → positions w s start ≤ a → Nowhere v w s start (positions w s start)
+      → searchFor v w s start a ≡ Refused (NoSync (positions w s start))
+  nowhere-nosync within l miss =
+      let m : most ≡ there = omega arith in
+      searchFor-all (passed-scanned within (sym (passed-nowhere (rw m miss)))) (omega arith) l
 
-  pub nowhere-usedup : length s ≤ roomLimit → start ≤ chipCount s → a < positions w s start
-      → Nowhere v w s start a → searchFor v w s start a ≡ UsedUp a
-  nowhere-usedup h g l miss =
+  pub nowhere-usedup : InBuffer s start → a < positions w s start → Nowhere v w s start a
+      → searchFor v w s start a ≡ Refused (UsedUp a)
+  nowhere-usedup within l miss =
       let m : most ≡ a = omega arith in
-      searchFor-used (positions w s start) most gone h g refl refl refl (omega (arith, passed-all (rw m miss))) l
+      searchFor-used (passed-scanned within (sym (passed-nowhere (rw m miss)))) (omega arith) l

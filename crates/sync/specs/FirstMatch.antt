@@ -1,7 +1,6 @@
 -- What the sync search promises, said without its steps (document 01, "Sync search").
 --     FirstAt v w s start a k t    the word stands at place k, from `start` on at no place before it, and k is the
 --                                  t-th position tried, which the allowance a covers
---     Nowhere v w s start m        it stands at none of the m places from `start` on
 use mathlib.Core.Path.{_≡_}
 use mathlib.Core.List.{List}
 use Prim.Native.Nat.{ℕ, _+_, _-_, _≤_, _<_}
@@ -14,6 +13,3 @@ pub record FirstAt (v w : ℕ) (s : List ℕ) (start a k t : ℕ) : Type 0 where
   pub first : (j : ℕ) → start ≤ j → j < k → wordAt s j w ≡ v → ⊥
   pub counted : t ≡ k - start + 1
   pub allowed : t ≤ a
-
-abbrev pub Nowhere : ℕ → ℕ → List ℕ → ℕ → ℕ → Type 0
-Nowhere v w s start m = (j : ℕ) → start ≤ j → j < start + m → wordAt s j w ≡ v → ⊥

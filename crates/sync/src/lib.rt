@@ -1,23 +1,19 @@
-// The search for the sync word that modes T and C share, and the tail that tells them apart (document 01, "Sync search";
-// EN 13757-4:2019, 9.4.2).
+// The search for the sync word that modes T and C share, and the tail that tells them apart (document 01,
+// "Sync search"; EN 13757-4:2019, 9.4.2).
 ghost use mathlib.Core.Path.{_≡_};
-ghost use Prim.Native.Nat.{ℕ, _+_, _*_, _-_, _/_, _%_, _^_, _≤_, _<_, min};
+ghost use Prim.Native.Nat.{ℕ, _+_, _-_, _/_, _%_, _^_, _≤_, _<_, min};
 ghost use lib.Dec.{eqb};
-ghost use lib.ListN.{length, getD};
-ghost use Rattle.chips.specs.Chips.{wordAt, roomLimit};
+ghost use lib.ListN.{length};
+ghost use Rattle.chips.specs.Chips.{roomLimit};
 ghost use Rattle.sync.specs.Tails.{tailOf, kindFor};
 ghost use Rattle.sync.specs.SyncSearch.{positions, passed, standsAt, searchOf, syncWord, syncWidth};
+use answers::Refusal;
 
 // What a search found.
 pub enum Sync {
     // The word stands first at `place`, the `tried`-th position from the start.
     Found { place: usize, tried: usize },
-    // No position is left: this many were tried.
-    NoSync(usize),
-    // The allowance, this many positions, was used up before the positions were.
-    UsedUp(usize),
-    // The buffer is too long, or the start lies behind it.
-    OutOfRange,
+    Refused(Refusal),
 }
 
 // The four kinds of frame in chips: mode or line code, and frame format. There is no other.
@@ -32,74 +28,11 @@ pub enum Kind {
 pub enum Tail {
     // A frame of this kind begins.
     Begins(Kind),
-    // There are fewer than sixteen.
-    Short,
-    // They begin like a mode C tail and are none; the sync word stands at this place.
-    UnknownTail(usize),
-    // The buffer is too long, or the place lies behind it.
-    OutOfRange,
+    Refused(Refusal),
 }
 
-// A byte as part of a window.
-fn wide(b: u8) -> usize
-    ensures { λ r. ⌜ (r ≡ b) × (r < 256) ⌝ }
-{
-    b as usize
-}
-
-// A byte of the buffer, 0 behind its end.
-fn byte_at(s: &[u8], k: usize) -> usize
-    ensures { λ r. ⌜ (r ≡ getD (now (s .entry)) k 0) × (r < 256) ⌝ }
-{
-    if k < s.len() {
-        return wide(s[k]);
-    }
-    0
-}
-
-// Four bytes as one number, first byte highest.
-fn four(a: usize, b: usize, c: usize, d: usize) -> usize
-    requires { ⌜ ((a < 256) × (b < 256)) × ((c < 256) × (d < 256)) ⌝ }
-    ensures { λ r. ⌜ (r ≡ ((a * 256 + b) * 256 + c) * 256 + d) × (r < 4294967296) ⌝ }
-{
-    ((a * 256 + b) * 256 + c) * 256 + d
-}
-
-// The 32 chips from byte q on, chips behind the buffer's end being 0.
-fn half(s: &[u8], q: usize) -> usize
-    requires { ⌜ q ≤ roomLimit + 4 ⌝ }
-    ensures { λ r. ⌜ (r ≡ wordAt (now (s .entry)) (8 * q) 32) × (r < 4294967296) ⌝ }
-{
-    if q + 4 <= s.len() {
-        return four(wide(s[q]), wide(s[q + 1]), wide(s[q + 2]), wide(s[q + 3]));
-    }
-    four(
-        byte_at(s, q),
-        byte_at(s, q + 1),
-        byte_at(s, q + 2),
-        byte_at(s, q + 3),
-    )
-}
-
-// The 64 chips from byte q on.
-fn window(s: &[u8], q: usize) -> usize
-    requires { ⌜ q ≤ roomLimit ⌝ }
-    ensures { λ r. ⌜ r ≡ wordAt (now (s .entry)) (8 * q) 64 ⌝ }
-{
-    half(s, q) * 4294967296 + half(s, q + 4)
-}
-
-// The sixteen chips at place r of the 64 chips x.
-fn within(x: usize, r: usize) -> usize
-    requires { ⌜ r ≤ 48 ⌝ }
-    ensures { λ p. ⌜ p ≡ x / 2 ^ (48 - r) % 65536 ⌝ }
-{
-    let below = (48 - r) as u32;
-    (x >> below) % 65536
-}
-
-// At so many places from place r of the 64 chips x on the sync word does not stand: its eight pairs of chips,
-// 01 01 01 00 00 11 11 01, are looked for at all places at once, whatever the chips are.
+// How many places from r on certainly do not hold the sync word: its eight pairs of chips, 01 01 01 00 00 11 11 01, are
+// looked for at all places of the 64 chips x at once, whatever the chips are.
 fn unmarked(x: usize, r: usize) -> usize
     requires { ⌜ r ≤ 7 ⌝ }
     ensures { λ p. ⌜ ((i : ℕ) → i < p → r + i ≤ 48 → x / 2 ^ (48 - (r + i)) % 65536 ≡ syncWord → ⊥) ⌝ }
@@ -127,7 +60,8 @@ fn first_in(x: usize, r: usize, n: usize) -> usize
 {
     let mut j = smaller(unmarked(x, r), n);
     while j < n {
-        if within(x, r + j) == 0x543D {
+        let below = (48 - (r + j)) as u32;
+        if (x >> below) % 65536 == 0x543D {
             return j;
         }
         j += 1;
@@ -135,7 +69,7 @@ fn first_in(x: usize, r: usize, n: usize) -> usize
     j
 }
 
-// How many places of the m from `start` on are tried before the word stands: a window of 64 chips holds up to 49 places.
+// How many places of the m from `start` on are tried before the word stands: a window of 64 chips holds up to 49.
 fn scan(s: &[u8], start: usize, m: usize) -> usize
     requires { ⌜ (m ≤ positions syncWidth (now s) start) × (length (now s) ≤ roomLimit) ⌝ }
     ensures { λ r. ⌜ r ≡ passed (standsAt syncWord syncWidth (now (s .entry))) start m ⌝ }
@@ -144,7 +78,7 @@ fn scan(s: &[u8], start: usize, m: usize) -> usize
     while i < m {
         let k = start + i;
         let n = smaller(m - i, 49 - k % 8);
-        let j = first_in(window(s, k / 8), k % 8, n);
+        let j = first_in(chips::window(s, k / 8), k % 8, n);
         if j < n {
             return i + j;
         }
@@ -161,7 +95,6 @@ fn smaller(a: usize, b: usize) -> usize
 
 // The positions from start on, of which each has sixteen chips.
 fn available(chips: usize, start: usize) -> usize
-    requires { ⌜ chips ≤ 8192 ⌝ }
     ensures { λ r. ⌜ r ≡ chips + 1 - 16 - start ⌝ }
 {
     if chips < 16 {
@@ -178,11 +111,8 @@ fn available(chips: usize, start: usize) -> usize
 pub fn search(s: &[u8], start: usize, allowance: usize) -> Sync
     ensures { λ r. ⌜ r ≡ searchOf (now (s .entry)) start allowance ⌝ }
 {
-    if s.len() > 1024 {
-        return Sync::OutOfRange;
-    }
-    if start > s.len() * 8 {
-        return Sync::OutOfRange;
+    if !chips::in_range(s, start) {
+        return Sync::Refused(Refusal::OutOfRange);
     }
     let there = available(s.len() * 8, start);
     let most = smaller(allowance, there);
@@ -194,9 +124,9 @@ pub fn search(s: &[u8], start: usize, allowance: usize) -> Sync
         };
     }
     if there <= allowance {
-        Sync::NoSync(there)
+        Sync::Refused(Refusal::NoSync(there))
     } else {
-        Sync::UsedUp(allowance)
+        Sync::Refused(Refusal::UsedUp(allowance))
     }
 }
 
@@ -211,7 +141,7 @@ fn kind_for(place: usize, t: usize) -> Tail
         return Tail::Begins(Kind::CWithB);
     }
     if t / 1024 == 0b010101 {
-        return Tail::UnknownTail(place);
+        return Tail::Refused(Refusal::UnknownTail(place));
     }
     Tail::Begins(Kind::TWithA)
 }
@@ -220,16 +150,11 @@ fn kind_for(place: usize, t: usize) -> Tail
 pub fn tail_at(s: &[u8], place: usize) -> Tail
     ensures { λ r. ⌜ r ≡ tailOf (now (s .entry)) place ⌝ }
 {
-    if s.len() > 1024 {
-        return Tail::OutOfRange;
+    if !chips::in_range(s, place) {
+        return Tail::Refused(Refusal::OutOfRange);
     }
-    let chips = s.len() * 8;
-    if place > chips {
-        return Tail::OutOfRange;
+    if s.len() * 8 - place < 32 {
+        return Tail::Refused(Refusal::Short);
     }
-    if chips - place < 32 {
-        return Tail::Short;
-    }
-    let k = place + 16;
-    kind_for(place, within(window(s, k / 8), k % 8))
+    kind_for(place, chips::word(s, place + 16, 16))
 }

@@ -11,11 +11,7 @@ impl Reply {
     }
 
     pub fn refused(refusal: Refusal) -> Reply {
-        let reply = Reply(format!("{} {}", refusal.number(), refusal.name()));
-        match refusal.value() {
-            Some((name, value)) => reply.field(name, value),
-            None => reply,
-        }
+        Reply(refusal.to_string())
     }
 
     /// What was accepted, told by `tell`, or the refusal.

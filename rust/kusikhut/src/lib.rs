@@ -1,29 +1,42 @@
 //! A safe wrapper of the proved wireless M-Bus link layer (EN 13757-4:2019).
 //!
-//! Every function takes any slices and numbers and answers: the accepted values, or the [`Refusal`] that document 01
-//! gives. A refusal leaves lent memory as it was. Nothing here decides anything: the proved library does.
+//! Every function takes any slices and numbers and answers: the accepted values, or the [`Refusal`] that docs/ANSWERS.md
+//! lists. A refusal leaves lent memory as it was. Nothing here decides anything: the proved library does.
 
+mod address;
+mod channels;
+mod crc;
+mod filter;
 mod frame;
 mod header;
 mod line;
-mod meters;
 mod radio;
 mod raw;
 mod refusal;
+mod sync;
 
-pub use frame::{check, update, Format, Frame};
-pub use header::{access, letters, Access, Header};
+pub use address::letters;
+pub use channels::{band_line, centre, row, BandLine, Row};
+pub use crc::{check, update};
+pub use filter::{wanted, Entries};
+pub use frame::{Format, Frame};
+pub use header::{access, Access, Header};
 pub use line::Code;
-pub use meters::{band_line, centre, row, wanted, BandLine, Entries, Row};
-pub use radio::{receive, receive_manchester, search, Found, Kind, Received};
+pub use radio::{receive, receive_manchester, Received};
 pub use refusal::Refusal;
+pub use sync::{search, Found, Kind};
+
+/// Lends `call` a row of results; tells what `accepted` makes of the row, or the refusal.
+fn told<T, const N: usize>(call: impl FnOnce(*mut u64) -> u8, accepted: impl FnOnce([u64; N]) -> T) -> Result<T, Refusal> {
+    let mut results = [0; N];
+    match call(results.as_mut_ptr()) {
+        0 => Ok(accepted(results)),
+        number => Err(Refusal::of(number, &results)),
+    }
+}
 
 /// The shape that all writers share: bytes in, bytes out, the number of bytes written.
 fn written(call: raw::BytesOut, bytes: &[u8], out: &mut [u8]) -> Result<u64, Refusal> {
-    let mut r = [0u64; 1];
-    // Sound: both slices are valid for their lengths, `out` and `r` are borrowed for this call alone.
-    match unsafe { call(bytes.as_ptr(), bytes.len(), out.as_mut_ptr(), out.len(), r.as_mut_ptr()) } {
-        0 => Ok(r[0]),
-        number => Err(Refusal::of(number, &r, refusal::Where::default())),
-    }
+    // Sound: both slices are valid for their lengths, and `out` is borrowed for this call alone.
+    told(|r| unsafe { call(bytes.as_ptr(), bytes.len(), out.as_mut_ptr(), out.len(), r) }, |[size]| size)
 }

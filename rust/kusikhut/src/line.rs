@@ -1,6 +1,5 @@
 //! Line codes alone: decoding, encoding, and one word at a time.
-use crate::raw;
-use crate::refusal::{Refusal, Where};
+use crate::{raw, told, written, Refusal};
 
 #[derive(Clone, Copy, Debug, PartialEq, Eq)]
 pub enum Code {
@@ -17,25 +16,22 @@ impl Code {
             Code::ThreeOfSix => raw::kusikhut_decode_three_of_six,
             Code::Manchester => raw::kusikhut_decode_manchester,
         };
-        let mut r = [0u64; 1];
-        // Sound: both slices are valid for their lengths, `out` and `r` are borrowed for this call alone.
-        match unsafe { call(chips.as_ptr(), chips.len(), start, n, out.as_mut_ptr(), out.len(), r.as_mut_ptr()) } {
-            0 => Ok(()),
-            number => Err(Refusal::of(number, &r, Where::default())),
-        }
+        // Sound: both slices are valid for their lengths, `out` is borrowed for this call alone, and `told` lends one
+        // result.
+        told(
+            |r| unsafe { call(chips.as_ptr(), chips.len(), start, n, out.as_mut_ptr(), out.len(), r) },
+            |[_word]| (),
+        )
     }
 
     /// Encodes `bytes` into the start of `out`; gives the number of bytes written.
     pub fn encode(self, bytes: &[u8], out: &mut [u8]) -> Result<u64, Refusal> {
-        crate::written(
-            match self {
-                Code::Nrz => raw::kusikhut_encode_nrz,
-                Code::ThreeOfSix => raw::kusikhut_encode_three_of_six,
-                Code::Manchester => raw::kusikhut_encode_manchester,
-            },
-            bytes,
-            out,
-        )
+        let call = match self {
+            Code::Nrz => raw::kusikhut_encode_nrz,
+            Code::ThreeOfSix => raw::kusikhut_encode_three_of_six,
+            Code::Manchester => raw::kusikhut_encode_manchester,
+        };
+        written(call, bytes, out)
     }
 
     /// How many chips a word has.
@@ -54,11 +50,7 @@ impl Code {
             Code::ThreeOfSix => raw::kusikhut_word_three_of_six,
             Code::Manchester => raw::kusikhut_word_manchester,
         };
-        let mut r = [0u64; 1];
-        // Sound: the slice is valid for its length, `r` is borrowed for this call alone.
-        match unsafe { call(chips.as_ptr(), chips.len(), at, r.as_mut_ptr()) } {
-            0 => Ok(r[0]),
-            number => Err(Refusal::of(number, &r, Where::default())),
-        }
+        // Sound: the slice is valid for its length, and `told` lends one result.
+        told(|r| unsafe { call(chips.as_ptr(), chips.len(), at, r) }, |[value]| value)
     }
 }

@@ -1,101 +1,69 @@
-//! Document 01's refusals: each number with its name in words and the values that it carries, and no others.
+//! A refusal: its number and the one value that it may carry are the library's; every word about it is docs/ANSWERS.md's.
+use std::fmt;
+
+const PAGE: &str = include_str!("../../../docs/ANSWERS.md");
 
 #[derive(Clone, Copy, Debug, PartialEq, Eq)]
-pub enum Refusal {
-    Short,
-    BadLength,
-    WrongCheck { block: u64 },
-    NoRoom,
-    BadContent,
-    BadWord { place: u64 },
-    NoSync { tried: u64 },
-    UnknownTail { place: u64 },
-    BadPlace,
-    OutOfRange,
-    UnknownCi,
-    ShortBody,
-    NoSuchChannel,
-    UsedUp { tried: u64 },
-}
-
-/// Which of an answer's results a refusal's value stands in; the library's functions differ in that alone.
-#[derive(Clone, Copy, Default)]
-pub(crate) struct Where {
-    pub block: usize,
-    pub word: usize,
-    pub tried: usize,
-    pub place: usize,
+pub struct Refusal {
+    number: u8,
+    value: u64,
 }
 
 impl Refusal {
-    /// The refusal that the number names, its value taken from `results`. The library gives no other number.
-    pub(crate) fn of(number: u8, results: &[u64], at: Where) -> Refusal {
-        match number {
-            1 => Refusal::Short,
-            2 => Refusal::BadLength,
-            3 => Refusal::WrongCheck { block: results[at.block] },
-            4 => Refusal::NoRoom,
-            5 => Refusal::BadContent,
-            6 => Refusal::BadWord { place: results[at.word] },
-            7 => Refusal::NoSync { tried: results[at.tried] },
-            8 => Refusal::UnknownTail { place: results[at.place] },
-            9 => Refusal::BadPlace,
-            10 => Refusal::OutOfRange,
-            11 => Refusal::UnknownCi,
-            12 => Refusal::ShortBody,
-            13 => Refusal::NoSuchChannel,
-            14 => Refusal::UsedUp { tried: results[at.tried] },
-            other => unreachable!("the library answers no number {other}"),
-        }
+    /// The refusal that a call's number and its results tell. All results but the refusal's value are zero, so that the
+    /// value is their sum.
+    pub(crate) fn of(number: u8, results: &[u64]) -> Refusal {
+        Refusal { number, value: results.iter().sum() }
     }
 
     pub fn number(self) -> u8 {
-        match self {
-            Refusal::Short => 1,
-            Refusal::BadLength => 2,
-            Refusal::WrongCheck { .. } => 3,
-            Refusal::NoRoom => 4,
-            Refusal::BadContent => 5,
-            Refusal::BadWord { .. } => 6,
-            Refusal::NoSync { .. } => 7,
-            Refusal::UnknownTail { .. } => 8,
-            Refusal::BadPlace => 9,
-            Refusal::OutOfRange => 10,
-            Refusal::UnknownCi => 11,
-            Refusal::ShortBody => 12,
-            Refusal::NoSuchChannel => 13,
-            Refusal::UsedUp { .. } => 14,
-        }
+        self.number
     }
 
-    /// The number in words, as one word for scripts.
+    /// The refusal in one word, for scripts.
     pub fn name(self) -> &'static str {
-        match self {
-            Refusal::Short => "too-short",
-            Refusal::BadLength => "length-not-allowed",
-            Refusal::WrongCheck { .. } => "wrong-check",
-            Refusal::NoRoom => "no-room",
-            Refusal::BadContent => "content-length-not-allowed",
-            Refusal::BadWord { .. } => "not-a-code-word",
-            Refusal::NoSync { .. } => "no-sync",
-            Refusal::UnknownTail { .. } => "unknown-sync-tail",
-            Refusal::BadPlace => "no-such-place",
-            Refusal::OutOfRange => "out-of-range",
-            Refusal::UnknownCi => "unknown-ci",
-            Refusal::ShortBody => "body-too-short",
-            Refusal::NoSuchChannel => "no-such-channel",
-            Refusal::UsedUp { .. } => "allowance-used-up",
-        }
+        row(self.number).0
     }
 
     /// The value that the refusal carries, with its name.
     pub fn value(self) -> Option<(&'static str, u64)> {
-        match self {
-            Refusal::WrongCheck { block } => Some(("block", block)),
-            Refusal::BadWord { place } => Some(("word", place)),
-            Refusal::NoSync { tried } | Refusal::UsedUp { tried } => Some(("tried", tried)),
-            Refusal::UnknownTail { place } => Some(("place", place)),
-            _ => None,
+        row(self.number).1.map(|name| (name, self.value))
+    }
+}
+
+impl fmt::Display for Refusal {
+    fn fmt(&self, f: &mut fmt::Formatter) -> fmt::Result {
+        write!(f, "{} {}", self.number, self.name())?;
+        match self.value() {
+            Some((name, value)) => write!(f, " {name}={value}"),
+            None => Ok(()),
+        }
+    }
+}
+
+/// The page's word for an answer number, and the name of its value where it has one.
+fn row(number: u8) -> (&'static str, Option<&'static str>) {
+    PAGE.lines().find_map(|line| cells(line, number)).unwrap_or_else(|| unreachable!("the library answers no number {number}"))
+}
+
+/// The word and the value's name, if this line of the page is the row of the number.
+fn cells(line: &'static str, number: u8) -> Option<(&'static str, Option<&'static str>)> {
+    let mut cells = line.strip_prefix('|')?.split('|').map(|cell| cell.trim().trim_matches('`'));
+    let given = cells.next()?.parse::<u8>().ok()?;
+    let (word, value) = (cells.next()?, cells.nth(1)?);
+    (given == number).then_some((word, (!value.is_empty()).then_some(value)))
+}
+
+#[cfg(test)]
+mod tests {
+    use super::*;
+
+    #[test]
+    fn the_page_has_a_word_for_every_number() {
+        let told = |number, value| Refusal { number, value }.to_string();
+        assert_eq!([told(1, 0), told(3, 2), told(14, 5)], ["1 too-short", "3 wrong-check block=2", "14 allowance-used-up tried=5"]);
+        for number in 0..=14 {
+            assert!(row(number).0.bytes().all(|b| b == b'-' || b.is_ascii_lowercase()), "{number}");
         }
     }
 }

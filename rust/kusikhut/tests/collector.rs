@@ -1,11 +1,17 @@
 //! The wrapper over the frames of EN 13757-4:2019, Annex C: round trips, and refusals that leave lent memory alone.
 use kusikhut::{Access, Code, Format, Header, Kind, Refusal};
+use std::fmt::Debug;
 
 const CONTENT: [u8; 15] = [0x44, 0xAE, 0x0C, 0x78, 0x56, 0x34, 0x12, 0x01, 0x07, 0x78, 0x0B, 0x13, 0x43, 0x65, 0x87];
 const FRAME: [u8; 20] = [
     0x0F, 0x44, 0xAE, 0x0C, 0x78, 0x56, 0x34, 0x12, 0x01, 0x07, 0x44, 0x47, 0x78, 0x0B, 0x13, 0x43, 0x65, 0x87, 0x1E, 0x6D,
 ];
 const UNTOUCHED: u8 = 0xEE;
+
+/// The refusal in the words of docs/ANSWERS.md.
+fn refused<T: Debug>(answer: Result<T, Refusal>) -> String {
+    answer.expect_err("this is refused").to_string()
+}
 
 #[test]
 fn a_frame_is_written_read_and_changed() {
@@ -21,27 +27,27 @@ fn a_frame_is_written_read_and_changed() {
 #[test]
 fn a_refusal_leaves_lent_memory() {
     let mut out = [UNTOUCHED; 15];
-    assert_eq!(Format::A.read(&[], &mut out), Err(Refusal::Short));
-    assert_eq!(Format::A.read(&FRAME[..18], &mut out), Err(Refusal::Short));
-    assert_eq!(Format::B.read(&[11], &mut out), Err(Refusal::BadLength));
-    assert_eq!(Format::A.read(&FRAME, &mut out[..14]), Err(Refusal::NoRoom));
+    assert_eq!(refused(Format::A.read(&[], &mut out)), "1 too-short");
+    assert_eq!(refused(Format::A.read(&FRAME[..18], &mut out)), "1 too-short");
+    assert_eq!(refused(Format::B.read(&[11], &mut out)), "2 length-not-allowed");
+    assert_eq!(refused(Format::A.read(&FRAME, &mut out[..14])), "4 no-room");
     let mut wrong = FRAME;
     wrong[12] ^= 0x80;
-    assert_eq!(Format::A.read(&wrong, &mut out), Err(Refusal::WrongCheck { block: 2 }));
-    assert_eq!(Format::A.write(&CONTENT[..9], &mut out), Err(Refusal::BadContent));
+    assert_eq!(refused(Format::A.read(&wrong, &mut out)), "3 wrong-check block=2");
+    assert_eq!(refused(Format::A.write(&CONTENT[..9], &mut out)), "5 content-length-not-allowed");
     assert_eq!(out, [UNTOUCHED; 15]);
     let mut frame = FRAME;
-    assert_eq!(Format::A.change(&mut frame, 15, 0), Err(Refusal::BadPlace));
+    assert_eq!(refused(Format::A.change(&mut frame, 15, 0)), "9 no-such-place");
     assert_eq!(frame, FRAME);
 }
 
 #[test]
 fn every_kind_is_received_as_it_was_sent() {
-    for kind in [Kind::TA, Kind::CA, Kind::CB, Kind::ManchesterA] {
+    for kind in [Kind::TWithA, Kind::CWithA, Kind::CWithB, Kind::ManchesterWithA] {
         let (mut chips, mut out) = ([0u8; 64], [UNTOUCHED; 15]);
         let bytes = kind.send(&CONTENT, &mut chips).expect("there is room") as usize;
         let got = match kind {
-            Kind::ManchesterA => kusikhut::receive_manchester(&chips[..bytes], 0, &mut out),
+            Kind::ManchesterWithA => kusikhut::receive_manchester(&chips[..bytes], 0, &mut out),
             _ => kusikhut::receive(&chips[..bytes], 0, usize::MAX, &mut out),
         };
         assert_eq!(got.map(|r| (r.kind, r.place, r.n)), Ok((kind, 0, 15)));
@@ -52,14 +58,14 @@ fn every_kind_is_received_as_it_was_sent() {
 #[test]
 fn any_number_gets_an_answer() {
     let mut out = [UNTOUCHED; 4];
-    assert_eq!(Code::Nrz.decode(&[], usize::MAX, usize::MAX, &mut out), Err(Refusal::OutOfRange));
-    assert_eq!(Code::Manchester.decode(&[0x9A, 0x9A], 0, usize::MAX, &mut out), Err(Refusal::Short));
-    assert_eq!(kusikhut::receive(&[0; 1025], 0, usize::MAX, &mut out), Err(Refusal::OutOfRange));
-    assert_eq!(kusikhut::search(&[0; 4], 32, usize::MAX), Err(Refusal::NoSync { tried: 0 }));
-    assert_eq!(kusikhut::search(&[0; 4], 0, 5), Err(Refusal::UsedUp { tried: 5 }));
-    assert_eq!(kusikhut::update(0, 0, 0, usize::MAX), Err(Refusal::OutOfRange));
-    assert_eq!(kusikhut::wanted(&[[0; 8]; 16], usize::MAX, &CONTENT), Err(Refusal::OutOfRange));
-    assert_eq!(kusikhut::centre(usize::MAX, usize::MAX), Err(Refusal::NoSuchChannel));
+    assert_eq!(refused(Code::Nrz.decode(&[], usize::MAX, usize::MAX, &mut out)), "10 out-of-range");
+    assert_eq!(refused(Code::Manchester.decode(&[0x9A, 0x9A], 0, usize::MAX, &mut out)), "1 too-short");
+    assert_eq!(refused(kusikhut::receive(&[0; 1025], 0, usize::MAX, &mut out)), "10 out-of-range");
+    assert_eq!(refused(kusikhut::search(&[0; 4], 32, usize::MAX)), "7 no-sync tried=0");
+    assert_eq!(refused(kusikhut::search(&[0; 4], 0, 5)), "14 allowance-used-up tried=5");
+    assert_eq!(refused(kusikhut::update(0, 0, 0, usize::MAX)), "10 out-of-range");
+    assert_eq!(refused(kusikhut::wanted(&[[0; 8]; 16], usize::MAX, &CONTENT)), "10 out-of-range");
+    assert_eq!(refused(kusikhut::centre(usize::MAX, usize::MAX)), "13 no-such-channel");
     assert_eq!(out, [UNTOUCHED; 4]);
 }
 
@@ -71,16 +77,17 @@ fn line_codes_are_each_other_s_inverse() {
         assert_eq!(code.decode(&chips[..size], 0, 20, &mut out), Ok(()));
         assert_eq!(out, FRAME);
     }
-    assert_eq!(Code::ThreeOfSix.word(&[0x54], 0), Err(Refusal::BadWord { place: 0 }));
+    assert_eq!(refused(Code::ThreeOfSix.word(&[0x54], 0)), "6 not-a-code-word word=0");
 }
 
 #[test]
 fn headers_and_names() {
-    let header = Header::NamedSession { cc: 0x84, acc: 7, m2: 0x0CAE, a2: [1, 2, 3, 4, 5, 6], sn: 0x01020304, crc: [0xAB, 0xCD] };
+    let header = Header::AddressedSecured { cc: 0x84, acc: 7, m2: 0x0CAE, a2: [1, 2, 3, 4, 5, 6], sn: 0x01020304, crc: [0xAB, 0xCD] };
     let mut out = [UNTOUCHED; 18];
     assert_eq!(header.write(&mut out), Ok(17));
     assert_eq!((Header::read(&out), out[17]), (Ok((header, 17)), UNTOUCHED));
-    assert_eq!((Header::read(&[]), Header::read(&[0x86])), (Err(Refusal::ShortBody), Err(Refusal::UnknownCi)));
+    assert_eq!(refused(Header::read(&[])), "12 body-too-short");
+    assert_eq!(refused(Header::read(&[0x86])), "11 unknown-ci");
     assert_eq!((kusikhut::access(0x84), kusikhut::letters(0x0443)), (Access::Always, Some(*b"ABC")));
     let mut entries = [[0u8; 8]; 16];
     entries[15].copy_from_slice(&CONTENT[1..9]);
@@ -111,7 +118,7 @@ fn changes_in_any_order_are_writing_afresh() {
                     content[place] = byte;
                 }
                 Err(why) => {
-                    assert_eq!((why, place >= n), (Refusal::BadPlace, true));
+                    assert_eq!((why.name(), place >= n), ("no-such-place", true));
                     refused += 1;
                 }
             }

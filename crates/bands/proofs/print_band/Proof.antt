@@ -1,4 +1,5 @@
--- `bands::print_band` is safe and ends. The loop counts k up to the number of lines; the measure is what is left of it. Assumes nothing.
+-- `bands::print_band` is safe and ends. The loop counts k up to the number of lines; the measure is what is left of it.
+-- Assumes nothing.
 use borrow.Author.Needs.{needs}
 use Prim.Native.Nat.{_-_, _≤_}
 use Rattle.bands.proofs.print_band.Statement.{statement}

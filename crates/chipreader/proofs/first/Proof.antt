@@ -4,12 +4,12 @@ use Rattle.chipreader.proofs.Walking.{_≡_, refl, ap, _∙_, ℕ, _<_,
 use contract.Running.{givenOf, tables, tablesOf}
 use denote.Enum.Laws as EL
 use Rattle.line.specs.Codes.{codeOf}
-use Rattle.line.specs.declared.Code.{Code}
-use Rattle.line.proofs.Code as K
-use Rattle.line.proofs.Code.Laws as K′
-use Rattle.chipreader.specs.Reading.{startOf, readerAt, readerAfter}
+use Rattle.line.specs.declared.codes.Code.{Code}
+use Rattle.line.proofs.codes.Code as K
+use Rattle.line.proofs.codes.Code.Laws as K′
+use Rattle.chipreader.specs.Steps.{startOf, readerAt, readerAfter}
 use Rattle.chipreader.specs.declared.ChipReader.{ChipReader}
-use Rattle.chipreader.proofs.Parts.{Slice, Reader, OwnReader, reader-apart, reader-tells, place-is, chipsVal, placeVal, readerVal, OwnChips, OwnPlace, chips-twice, chips-typed, place-typed, reader-typed, asked, said, answers}
+use Rattle.chipreader.proofs.Parts.{Slice, Reader, OwnReader, reader-apart, reader-tells, Is-reader-place, chipsVal, placeVal, readerVal, OwnChips, OwnPlace, chips-twice, chips-typed, place-typed, reader-typed, sep-emp, ensured-fact, lands-result}
 use Rattle.chipreader.proofs.new as new
 use Rattle.chipreader.proofs.new.Symbol as new-def
 use Rattle.chipreader.proofs.new.Symbol.{name as #chipreader·new}
@@ -70,12 +70,12 @@ module _ {M : Type 1} (𝓤 : URA M) (H : Heap 𝓤) (A : Atoms 𝓤) (W : Given
   asks-new =
       qed W ((‵ (flft κ q) ⊛ ‵ ftrue) ∷ ‵ (owns (K.the-row ∷ Slice κ ∷ usize ∷ []) args vals) ∷ []) ∵
       move ! (1 ∷ []) $ fsplit ! $ drop ! $ fsplit ! $ use1 W (‵ (OwnChips κ s) ⊛ ‵ (OwnChips κ s)) (chips-twice 𝓤 H A W κ s) $ split ! $
-      move ! (0 ∷ 2 ∷ []) $ fjoin ! $ move ! (2 ∷ 0 ∷ []) $ use2 W (raw (New 𝓤 H A mem run .pre to-new)) (asked 𝓤 _) $ frame ! $ done !
+      move ! (0 ∷ 2 ∷ []) $ fjoin ! $ move ! (2 ∷ 0 ∷ []) $ use2 W (raw (New 𝓤 H A mem run .pre to-new)) (sep-emp 𝓤 _) $ frame ! $ done !
 
   asks-next : Is K.the-row k (codeVal ∷ []) → (d : ChipReader) → ent 𝓤 (⋆ 𝓤 H A (‵ (OwnReader κ d) ∷ (‵ (flft κ q) ⊛ ‵ ftrue) ∷ [])) (Next 𝓤 H A mem run .pre (to-next d))
   asks-next is-code d =
       qed W (‵ (OwnReader κ d) ∷ (‵ (flft κ q) ⊛ ‵ ftrue) ∷ []) ∵
-      nothing ! $ owned ! K.the-row (Is K.the-row) (EL.makes K.the-type K′.the-plain 𝓤 H A) k _ is-code $ fjoin ! $ move ! (1 ∷ 0 ∷ []) $ fjoin ! $ move ! (1 ∷ 0 ∷ []) $ by ! (asked 𝓤 _)
+      nothing ! $ owned ! K.the-row (Is K.the-row) (EL.makes K.the-type K′.the-plain 𝓤 H A) k _ is-code $ fjoin ! $ move ! (1 ∷ 0 ∷ []) $ fjoin ! $ move ! (1 ∷ 0 ∷ []) $ by ! (sep-emp 𝓤 _)
 
   exits : Is K.the-row k (codeVal ∷ []) → (d x : ChipReader) → is-new d → is-next d x
       → ent 𝓤 (⋆ 𝓤 H A (‵ (OwnReader κ x) ∷ (‵ (flft κ q) ⊛ ‵ ftrue) ∷ ‵ (OwnChips κ s) ∷ [])) (Post (placeVal (x .place)))
@@ -96,16 +96,16 @@ module _ {M : Type 1} (𝓤 : URA M) (H : Heap 𝓤) (A : Atoms 𝓤) (W : Given
         -- [_5; …; _4; …; _3; …; _2; …; _1; …; _0; …; what is had at entry]
         move ! (12 ∷ []) $ use1 W (raw (New 𝓤 H A mem run .pre to-new) ⊛ ‵ (OwnChips κ s)) asks-new $ split ! $
         calls-at ! fm (New 𝓤 H A mem run) known-new to-new (and-then ! (load ! (from ! (stop !)) (look ! 8 refl)) (and-then ! (load ! (from ! (stop !)) (look ! 6 refl)) (no-more !))) (λ u.
-        answers ! (Reader (κ, tt)) (readerVal κ) (reader-tells κ) κ q (ensured 𝓤 H A new.ended (new.clauses 𝓤 H A mem run) (κ, tt) (args .1) tt) is-new u
-        (λ r. said 𝓤 H A new.ended (new.clauses 𝓤 H A mem run) (κ, tt) (args .1) tt r (is-new r) (λ _. refl)) (λ d e is-reader.
+        lands-result ! (Reader (κ, tt)) (readerVal κ) (reader-tells κ) κ q (ensured 𝓤 H A new.ended (new.clauses 𝓤 H A mem run) (κ, tt) (args .1) tt) is-new u
+        (λ r. ensured-fact 𝓤 H A new.ended (new.clauses 𝓤 H A mem run) (κ, tt) (args .1) tt r (is-new r) (λ _. refl)) (λ d e is-reader.
         -- [what the reader owns; the token; what the chips own; _5; …; _4; …; _3; …; _2; …; _1; …; _0; …]
         land ! (from ! (stop !)) (init ! 3 refl (reader-typed 𝓤 H A W κ erased d is-reader .0)) $
         use2 W (raw (Next 𝓤 H A mem run .pre (to-next d))) (asks-next is-code d) $
         calls-at ! fm (Next 𝓤 H A mem run) known-next (to-next d) (and-then ! (load ! (from ! (stop !)) (look ! 2 refl)) (and-then ! (load ! (from ! (stop !)) (look ! 10 refl)) (no-more !))) (λ u′.
-        answers ! (Reader (κ, tt)) (readerVal κ) (reader-tells κ) κ q (ensured 𝓤 H A next.ended (next.clauses 𝓤 H A mem run) (κ, tt) (d, (k, tt)) tt) (is-next d) u′
-        (λ r. said 𝓤 H A next.ended (next.clauses 𝓤 H A mem run) (κ, tt) (d, (k, tt)) tt r (is-next d r) (λ _. refl)) (λ x e′ is-next-reader.
+        lands-result ! (Reader (κ, tt)) (readerVal κ) (reader-tells κ) κ q (ensured 𝓤 H A next.ended (next.clauses 𝓤 H A mem run) (κ, tt) (d, (k, tt)) tt) (is-next d) u′
+        (λ r. ensured-fact 𝓤 H A next.ended (next.clauses 𝓤 H A mem run) (κ, tt) (d, (k, tt)) tt r (is-next d r) (λ _. refl)) (λ x e′ is-next-reader.
         land ! (from ! (stop !)) (init ! 5 refl (reader-typed 𝓤 H A W κ erased x is-next-reader .0)) $
-        assigns ! (of-opd ! (load ! (from ! (fld ! refl (stop !))) (look-in ! 5 (sub ! 1 refl (whole !))))) (from ! (stop !)) (init ! 13 refl (place-typed 𝓤 H A W κ (x .place) (place-is κ x is-next-reader) .0)) $
+        assigns ! (of-opd ! (load ! (from ! (fld ! refl (stop !))) (look-in ! 5 (sub ! 1 refl (whole !))))) (from ! (stop !)) (init ! 13 refl (place-typed 𝓤 H A W κ (x .place) (Is-reader-place κ x is-next-reader) .0)) $
         returns ! (look ! 13 refl) $ forget ! 3 refl $ forget ! 5 refl $ forget ! 7 refl $ forget ! 9 refl $ forget ! 11 refl $ forget ! 13 refl $
         move ! (13 ∷ 14 ∷ []) $ free1 ! $ move ! (11 ∷ 12 ∷ []) $ free1 ! $ move ! (9 ∷ 10 ∷ []) $ free1 ! $ move ! (7 ∷ 8 ∷ []) $ free1 ! $ move ! (5 ∷ 6 ∷ []) $ free1 ! $ move ! (3 ∷ 4 ∷ []) $ free1 ! $ free0 ! $
         by ! (exits is-code d x e e′)))))))))))

@@ -3,9 +3,9 @@
 -- Lent chips are Copy: one copy goes to `start`, one into the reader, and one is kept for the exit. Assumes nothing.
 use Rattle.chipreader.proofs.Walking.{_≡_, refl, ap, ℕ, _<_, _^_, List, [], _∷_, URA, named, w64, Val, vint, SProp, ent, sep, emp, via, fst∗, Lft, Share, ftrue, flft, Memory, Routine, Heap, Calls, Loops, WpFn, Tables, Atoms, sem, Fun, Given, ‵, raw, _⊛_, ⋆, _$_, _∵_, !, qed, by, move, use1, use2, split, fsplit, fjoin, suffices, frame, done, agg, look, init, forget, stop, from, load, and-then, no-more, assigns, land, returns, enter, alloc1, alloc0, params1, pass1, pass0, free1, free0, FmC, fmOf, WpFn-mono, owns, Is, uint-makes, uint-vals, uint-tells, u8, usize, RefT, now, plain, slice-vals, shr-slice-tells, owned, nothing, Contract, Triple, calls-at, ensured, onEntry, Meets, tripleOf, entered, cited, says, Stays, stay-none, stay-none-slice, walkOf, goes-none, goes-none-slice, ends-at, walked, walk-meets, yes}
 use contract.Running.{givenOf, tables, tablesOf}
-use Rattle.chipreader.specs.Reading.{startOf, readerAt}
+use Rattle.chipreader.specs.Steps.{startOf, readerAt}
 use Rattle.chipreader.specs.declared.Place.{Place}
-use Rattle.chipreader.proofs.Parts.{Slice, chipsVal, placeVal, readerVal, OwnChips, OwnPlace, chips-twice, reader-together, reader-is, chips-typed, place-typed, reader-typed, place-tells, asked, said, answers}
+use Rattle.chipreader.proofs.Parts.{Slice, chipsVal, placeVal, readerVal, OwnChips, OwnPlace, chips-twice, reader-together, Is-reader, chips-typed, place-typed, reader-typed, place-tells, sep-emp, ensured-fact, lands-result}
 use Rattle.chipreader.proofs.Place as P
 use Rattle.chipreader.proofs.start as start
 use Rattle.chipreader.proofs.start.Symbol as start-def
@@ -48,7 +48,7 @@ module _ {M : Type 1} (𝓤 : URA M) (H : Heap 𝓤) (A : Atoms 𝓤) (W : Given
   asks =
       qed W ((‵ (flft κ q) ⊛ ‵ ftrue) ∷ ‵ (owns (Slice κ ∷ usize ∷ []) args vals) ∷ []) ∵
       move ! (1 ∷ []) $ fsplit ! $ use1 W (‵ (OwnChips κ s) ⊛ ‵ (OwnChips κ s)) (chips-twice 𝓤 H A W κ s) $ split ! $
-      move ! (0 ∷ 2 ∷ []) $ fjoin ! $ move ! (2 ∷ 0 ∷ []) $ use2 W (raw (Start 𝓤 H A mem run .pre to-start)) (asked 𝓤 _) $ frame ! $ done !
+      move ! (0 ∷ 2 ∷ []) $ fjoin ! $ move ! (2 ∷ 0 ∷ []) $ use2 W (raw (Start 𝓤 H A mem run .pre to-start)) (sep-emp 𝓤 _) $ frame ! $ done !
 
   exits : (p : Place) → is-start p → ent 𝓤 (⋆ 𝓤 H A (‵ (OwnPlace p) ∷ (‵ (flft κ q) ⊛ ‵ ftrue) ∷ ‵ (OwnChips κ s) ∷ [])) (Post (readerVal κ (readerAt s p)))
   exits p e =
@@ -67,12 +67,12 @@ module _ {M : Type 1} (𝓤 : URA M) (H : Heap 𝓤) (A : Atoms 𝓤) (W : Given
         -- [_3; …; _2; …; _1; …; _0; …; what is had at entry]
         move ! (8 ∷ []) $ use1 W (raw (Start 𝓤 H A mem run .pre to-start) ⊛ ‵ (OwnChips κ s)) asks $ split ! $
         calls-at ! fm (Start 𝓤 H A mem run) known to-start (and-then ! (load ! (from ! (stop !)) (look ! 6 refl)) (and-then ! (load ! (from ! (stop !)) (look ! 4 refl)) (no-more !))) (λ u.
-        answers ! P.the-row placeVal place-tells κ q (ensured 𝓤 H A start.ended (start.clauses 𝓤 H A mem run) (κ, tt) args tt) is-start u
-        (λ r. said 𝓤 H A start.ended (start.clauses 𝓤 H A mem run) (κ, tt) args tt r (is-start r) (λ _. refl)) (λ p e is-place.
+        lands-result ! P.the-row placeVal place-tells κ q (ensured 𝓤 H A start.ended (start.clauses 𝓤 H A mem run) (κ, tt) args tt) is-start u
+        (λ r. ensured-fact 𝓤 H A start.ended (start.clauses 𝓤 H A mem run) (κ, tt) args tt r (is-start r) (λ _. refl)) (λ p e is-place.
         -- [what the place owns; the token; what the chips own; _3; …; _2; …; _1; …; _0; …]
         land ! (from ! (stop !)) (init ! 3 refl (place-typed 𝓤 H A W κ p is-place .0)) $
         assigns ! (agg ! (and-then ! (load ! (from ! (stop !)) (look ! 7 refl)) (and-then ! (load ! (from ! (stop !)) (look ! 3 refl)) (no-more !)))) (from ! (stop !))
-        (init ! 9 refl (reader-typed 𝓤 H A W κ (named 0) (readerAt s p) (reader-is κ (readerAt s p) is-chips is-place) .0)) $
+        (init ! 9 refl (reader-typed 𝓤 H A W κ (named 0) (readerAt s p) (Is-reader κ (readerAt s p) is-chips is-place) .0)) $
         returns ! (look ! 9 refl) $ forget ! 3 refl $ forget ! 5 refl $ forget ! 7 refl $ forget ! 9 refl $
         move ! (9 ∷ 10 ∷ []) $ free1 ! $ move ! (7 ∷ 8 ∷ []) $ free1 ! $ move ! (5 ∷ 6 ∷ []) $ free1 ! $ move ! (3 ∷ 4 ∷ []) $ free1 ! $ free0 ! $ by ! (exits p e)))))))
 

@@ -6,13 +6,13 @@ use Rattle.chipreader.proofs.Walking.{_≡_, refl, ap, ℕ, List, [], _
 use contract.Running.{givenOf, tables, tablesOf}
 use denote.Enum.Laws as EL
 use Rattle.line.specs.Codes.{codeOf}
-use Rattle.line.specs.declared.Code.{Code}
-use Rattle.line.proofs.Code as K
-use Rattle.line.proofs.Code.Laws as K′
-use Rattle.chipreader.specs.Reading.{stepOf, readerAt}
+use Rattle.line.specs.declared.codes.Code.{Code}
+use Rattle.line.proofs.codes.Code as K
+use Rattle.line.proofs.codes.Code.Laws as K′
+use Rattle.chipreader.specs.Steps.{stepOf, readerAt}
 use Rattle.chipreader.specs.declared.ChipReader.{ChipReader}
 use Rattle.chipreader.specs.declared.Place.{Place}
-use Rattle.chipreader.proofs.Parts.{Reader, OwnReader, reader-twice, reader-apart, reader-tells, chips-is, place-is, chipsVal, placeVal, readerVal, OwnChips, OwnPlace, reader-together, reader-is, chips-typed, place-typed, reader-typed, place-tells, asked, said, answers}
+use Rattle.chipreader.proofs.Parts.{Reader, OwnReader, reader-twice, reader-apart, reader-tells, Is-reader-chips, Is-reader-place, chipsVal, placeVal, readerVal, OwnChips, OwnPlace, reader-together, Is-reader, chips-typed, place-typed, reader-typed, place-tells, sep-emp, ensured-fact, lands-result}
 use Rattle.chipreader.proofs.Place as P
 use Rattle.chipreader.proofs.step as step
 use Rattle.chipreader.proofs.step.Symbol as step-def
@@ -70,7 +70,7 @@ module _ {M : Type 1} (𝓤 : URA M) (H : Heap 𝓤) (A : Atoms 𝓤) (W : Given
       use1 W (‵ (OwnChips κ (d .chips)) ⊛ ‵ (OwnPlace (d .place))) (reader-apart 𝓤 H A W κ d) $ split ! $
       -- [what the chips own; what the place owns; what the reader owns; what the code owns, and nothing; the token]
       move ! (3 ∷ []) $ fsplit ! $ move ! (3 ∷ 1 ∷ []) $ fjoin ! $ move ! (2 ∷ 0 ∷ []) $ fjoin ! $ move ! (1 ∷ 0 ∷ []) $ fjoin ! $ move ! (2 ∷ 0 ∷ []) $
-      use2 W (raw (Step 𝓤 H A mem run .pre to-step)) (asked 𝓤 _) $ frame ! $ done !
+      use2 W (raw (Step 𝓤 H A mem run .pre to-step)) (sep-emp 𝓤 _) $ frame ! $ done !
 
   exits : Is K.the-row k (codeVal ∷ []) → (p : Place) → is-after p → ent 𝓤 (⋆ 𝓤 H A (‵ (OwnPlace p) ∷ (‵ (flft κ q) ⊛ ‵ ftrue) ∷ ‵ (OwnReader κ d) ∷ [])) (Post (readerVal κ (readerAt (d .chips) p)))
   exits is-code p e =
@@ -88,17 +88,17 @@ module _ {M : Type 1} (𝓤 : URA M) (H : Heap 𝓤) (A : Atoms 𝓤) (W : Given
         alloc1 ! (λ l₀. alloc1 ! (λ l₁. alloc1 ! (λ l₂. alloc1 ! (λ l₃. alloc1 ! (λ l₄. alloc1 ! (λ l₅. alloc1 ! (λ l₆. alloc0 ! $ params1 ! $
         pass1 ! (init ! 10 refl (reader-typed 𝓤 H A W κ (named 0) d is-reader .0)) $ pass1 ! (init ! 8 refl (EL.lawful K.the-type K′.the-laws 𝓤 H A W tt .typed k _ is-code .0)) $ pass0 ! $
         -- [_6; …; _5; …; _4; …; _3; …; _2; …; _1; …; _0; …; what is had at entry]
-        assigns ! (of-opd ! (load ! (from ! (fld ! refl (stop !))) (look-in ! 10 (sub ! 0 refl (whole !))))) (from ! (stop !)) (init ! 4 refl (chips-typed 𝓤 H A W κ erased (d .chips) (chips-is κ d is-reader) .0)) $
-        assigns ! (of-opd ! (load ! (from ! (fld ! refl (stop !))) (look-in ! 10 (sub ! 1 refl (whole !))))) (from ! (stop !)) (init ! 2 refl (place-typed 𝓤 H A W κ (d .place) (place-is κ d is-reader) .0)) $
+        assigns ! (of-opd ! (load ! (from ! (fld ! refl (stop !))) (look-in ! 10 (sub ! 0 refl (whole !))))) (from ! (stop !)) (init ! 4 refl (chips-typed 𝓤 H A W κ erased (d .chips) (Is-reader-chips κ d is-reader) .0)) $
+        assigns ! (of-opd ! (load ! (from ! (fld ! refl (stop !))) (look-in ! 10 (sub ! 1 refl (whole !))))) (from ! (stop !)) (init ! 2 refl (place-typed 𝓤 H A W κ (d .place) (Is-reader-place κ d is-reader) .0)) $
         move ! (14 ∷ []) $ use1 W (raw (Step 𝓤 H A mem run .pre to-step) ⊛ ‵ (OwnReader κ d)) asks $ split ! $
         calls-at ! fm (Step 𝓤 H A mem run) known to-step (and-then ! (load ! (from ! (stop !)) (look ! 10 refl)) (and-then ! (load ! (from ! (stop !)) (look ! 6 refl)) (and-then ! (load ! (from ! (stop !)) (look ! 4 refl)) (no-more !)))) (λ u.
-        answers ! P.the-row placeVal place-tells κ q (ensured 𝓤 H A step.ended (step.clauses 𝓤 H A mem run) (κ, tt) step-args tt) is-after u
-        (λ r. said 𝓤 H A step.ended (step.clauses 𝓤 H A mem run) (κ, tt) step-args tt r (is-after r) (λ _. refl)) (λ p e is-place.
+        lands-result ! P.the-row placeVal place-tells κ q (ensured 𝓤 H A step.ended (step.clauses 𝓤 H A mem run) (κ, tt) step-args tt) is-after u
+        (λ r. ensured-fact 𝓤 H A step.ended (step.clauses 𝓤 H A mem run) (κ, tt) step-args tt r (is-after r) (λ _. refl)) (λ p e is-place.
         -- [what the place owns; the token; what the reader owns; _6; …; _5; …; _4; …; _3; …; _2; …; _1; …; _0; …]
         land ! (from ! (stop !)) (init ! 9 refl (place-typed 𝓤 H A W κ p is-place .0)) $
-        assigns ! (of-opd ! (load ! (from ! (fld ! refl (stop !))) (look-in ! 13 (sub ! 0 refl (whole !))))) (from ! (stop !)) (init ! 3 refl (chips-typed 𝓤 H A W κ erased (d .chips) (chips-is κ d is-reader) .0)) $
+        assigns ! (of-opd ! (load ! (from ! (fld ! refl (stop !))) (look-in ! 13 (sub ! 0 refl (whole !))))) (from ! (stop !)) (init ! 3 refl (chips-typed 𝓤 H A W κ erased (d .chips) (Is-reader-chips κ d is-reader) .0)) $
         assigns ! (agg ! (and-then ! (load ! (from ! (stop !)) (look ! 3 refl)) (and-then ! (load ! (from ! (stop !)) (look ! 9 refl)) (no-more !)))) (from ! (stop !))
-        (init ! 15 refl (reader-typed 𝓤 H A W κ (named 0) (readerAt (d .chips) p) (reader-is κ (readerAt (d .chips) p) (chips-is κ d is-reader) is-place) .0)) $
+        (init ! 15 refl (reader-typed 𝓤 H A W κ (named 0) (readerAt (d .chips) p) (Is-reader κ (readerAt (d .chips) p) (Is-reader-chips κ d is-reader) is-place) .0)) $
         returns ! (look ! 15 refl) $ forget ! 3 refl $ forget ! 5 refl $ forget ! 7 refl $ forget ! 9 refl $ forget ! 11 refl $ forget ! 13 refl $ forget ! 15 refl $
         move ! (15 ∷ 16 ∷ []) $ free1 ! $ move ! (13 ∷ 14 ∷ []) $ free1 ! $ move ! (11 ∷ 12 ∷ []) $ free1 ! $ move ! (9 ∷ 10 ∷ []) $ free1 ! $ move ! (7 ∷ 8 ∷ []) $ free1 ! $ move ! (5 ∷ 6 ∷ []) $ free1 ! $ move ! (3 ∷ 4 ∷ []) $ free1 ! $ free0 ! $
         by ! (exits is-code p e))))))))))

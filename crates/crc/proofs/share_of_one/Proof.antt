@@ -6,7 +6,7 @@ use Prim.Native.Nat.{ℕ, _+_, _*_, _/_, _%_}
 use native.Mathlib.Omega.{arith}
 use borrow.Author.Needs.{needs}
 use lib.ListN.{replicate}
-use Rattle.ground.proofs.TableLaws.{value}
+use Rattle.ground.proofs.TableLaws.{getD-values}
 use Rattle.crc.specs.Check.{bitIn, bitsIn, byteIn, regOf}
 use Rattle.crc.specs.CheckUpdate.{shareOf}
 use Rattle.crc.proofs.ShareLaws.{regOf-zeros-pred, shareOf-add}
@@ -31,7 +31,7 @@ loop-holds c =
     let d = c .args .distance in
     let whole : 16 * (d / 16) + d % 16 ≡ d = omega arith in
     ap (λ (v : ℕ). regOf v (replicate (d % 16) 0))
-    (value (λ (k : ℕ). shareOf 1 (16 * k)) 8 (d / 16) 0 (omega arith))
+    (getD-values (λ (k : ℕ). shareOf 1 (16 * k)) 8 (d / 16) 0 (omega arith))
     ∙ shareOf-add 1 (16 * (d / 16)) (d % 16) ∙ ap (shareOf 1) whole
 
 byte-in-requires : tie.Need-byte-in-requires Inv-loop μ-loop

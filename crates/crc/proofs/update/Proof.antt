@@ -15,7 +15,7 @@ use Rattle.crc.proofs.update.Tie as tie
 returns : tie.Need-returns
 returns c =
     let a = c .before .args in
-    updating-promised (a .old-check) (a .old) (a .new) (a .distance) _ (rw (lt-leb (a .distance) 125 (omega arith)))
+    updating-promised (a .old-check) (a .old) (a .new) (a .distance) (rw (lt-leb (a .distance) 125 (omega arith)))
 
 share-requires : tie.Need-share-requires
 share-requires c κs = search needs
@@ -23,7 +23,7 @@ share-requires c κs = search needs
 returns-2 : tie.Need-returns-2
 returns-2 c =
     let a = c .before .before .args in
-    updating-promised (a .old-check) (a .old) (a .new) (a .distance) _
+    updating-promised (a .old-check) (a .old) (a .new) (a .distance)
     (rw (le-leb (a .distance) 125 (omega arith))
     (ap {B = Updated} (λ (v : ℕ). Accepted (bitXor (a .old-check) v)) (c .share .ensures)))
 

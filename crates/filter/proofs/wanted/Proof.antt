@@ -1,20 +1,23 @@
--- `filter::wanted` meets its contract. The loop's invariant: the entries in use that are left decide as all of them do. The
--- measure is what is left of the count. Assumes nothing.
-use mathlib.Core.List.{List}
+-- `filter::wanted` meets its contract. The loop's invariant: the entries in use that are left decide as all of them do.
+-- The measure is what is left of the count. Assumes nothing.
 use mathlib.Core.Path.{_≡_, _∙_, sym}
-use Prim.Native.Nat.{ℕ, _≤_, _-_}
+use Prim.Native.Nat.{_≤_, _-_}
 use native.Mathlib.Omega.{arith}
 use borrow.Author.Needs.{needs}
 use borrow.Author.Tests.{lt-ltb, le-ltb}
 use denote.Ref.{now}
 use lib.ListN.{length, take, drop}
-use Rattle.filter.specs.Listed.{nameOf, listed}
-use Rattle.filter.proofs.ListedLaws.{listed-on, listed-off, listed-end, verdictOf-judged}
+use Rattle.address.specs.Names.{nameOf}
+use Rattle.filter.specs.Listed.{listed}
+use Rattle.filter.proofs.ListedLaws.{listed-next, listed-here, listed-end}
+use Rattle.filter.proofs.FilterLaws.{verdictOf-rest}
 use Rattle.filter.proofs.wanted.Statement.{statement}
 use Rattle.filter.proofs.wanted.Tie as tie
 
 abbrev Inv-loop : tie.InvT-loop
-Inv-loop count content entries k₀ k = (k ≤ count) × (listed (nameOf content) (drop k (take count entries)) ≡ listed (nameOf content) (take count entries))
+Inv-loop count content entries k₀ k =
+    (k ≤ count)
+    × (listed (nameOf content) (drop k (take count entries)) ≡ listed (nameOf content) (take count entries))
 
 abbrev μ-loop : tie.MeasureT-loop
 μ-loop count content entries k₀ k = count - k
@@ -39,15 +42,19 @@ array-copy-out-entry c = omega arith
 bears-requires : tie.Need-bears-requires Inv-loop μ-loop
 bears-requires c κs = search needs
 
+-- a count of at most sixteen is within the entries
+within : (c : tie.Start Inv-loop μ-loop) → c .args .count ≤ 16 → c .args .count ≤ length (c .args .t1)
+within c few = omega (arith, c .good .0 .1 .0 .1)
+
 returns-3 : tie.Need-returns-3 Inv-loop μ-loop
 returns-3 c =
     let at = c .before .before .before .before in
-    let in-hand = at .before .before .before .before .args in
-    let es : List (List ℕ) = in-hand .t1 in
-    let s : List ℕ = now (in-hand .content) in
-    let fits : in-hand .count ≤ length es = omega (arith, at .before .before .before .before .good .0 .1 .0 .1) in
-    sym (verdictOf-judged es (in-hand .count) s (omega arith) (omega arith)
-    ∙ rw (sym (at .loop .inv .1) ∙ listed-off (nameOf s) es (in-hand .count) (at .loop .k) fits (omega arith) (sym (c .before .bears .ensures) ∙ c .if3 .taken)))
+    let start = at .before .before .before .before in
+    let a = start .args in
+    let s = now (a .content) in
+    verdictOf-rest (a .t1) (a .count) (at .loop .k) s (omega arith) (omega arith) (at .loop .inv .1)
+    (listed-here (a .t1) (a .count) (nameOf s) (within start (omega arith)) (at .loop .k) (omega arith)
+    (sym (c .before .bears .ensures) ∙ c .if3 .taken))
 
 add-k : tie.Need-add-k Inv-loop μ-loop
 add-k c = search needs
@@ -58,23 +65,19 @@ loop-less c = search needs
 loop-again : tie.Need-loop-again Inv-loop μ-loop
 loop-again c =
     let at = c .before .before .before .before in
-    let in-hand = at .before .before .before .before .args in
-    let es : List (List ℕ) = in-hand .t1 in
-    let s : List ℕ = now (in-hand .content) in
-    let fits : in-hand .count ≤ length es = omega (arith, at .before .before .before .before .good .0 .1 .0 .1) in (
-      omega arith,
-      listed-on (nameOf s) es (in-hand .count) (at .loop .k) fits (omega arith) (sym (c .before .bears .ensures) ∙ c .if3 .left) ∙ at .loop .inv .1,
-    )
+    let start = at .before .before .before .before in
+    let a = start .args in
+    let next = listed-next (a .t1) (a .count) (nameOf (now (a .content))) (within start (omega arith)) in
+    (omega arith, next (at .loop .k) (omega arith) (sym (c .before .bears .ensures) ∙ c .if3 .left) ∙ at .loop .inv .1)
 
 returns-4 : tie.Need-returns-4 Inv-loop μ-loop
 returns-4 c =
     let at = c .before in
-    let in-hand = at .before .before .before .before .args in
-    let es : List (List ℕ) = in-hand .t1 in
-    let s : List ℕ = now (in-hand .content) in
-    let fits : in-hand .count ≤ length es = omega (arith, at .before .before .before .before .good .0 .1 .0 .1) in
-    sym (verdictOf-judged es (in-hand .count) s (omega arith) (omega arith)
-    ∙ rw (sym (at .loop .inv .1) ∙ listed-end (nameOf s) es (in-hand .count) (at .loop .k) fits (omega arith)))
+    let start = at .before .before .before .before in
+    let a = start .args in
+    let s = now (a .content) in
+    verdictOf-rest (a .t1) (a .count) (at .loop .k) s (omega arith) (omega arith) (at .loop .inv .1)
+    (listed-end (a .t1) (a .count) (nameOf s) (within start (omega arith)) (at .loop .k) (omega arith))
 
 pub wanted-spec : {M : Type 1} → statement M
 wanted-spec =

@@ -1,7 +1,5 @@
 -- The part that is lent to the line code reaches to the end, so that nothing but it changes.
-use mathlib.Core.Path.{ap}
-use Rattle.line.specs.Codes.{codeOf}
-use Rattle.radio.specs.Kinds.{lineOf}
+use Rattle.radio.specs.KindParts.{lineOf}
 use Rattle.radio.proofs.PutLaws.{behind-part}
 use borrow.Author.Needs.{needs}
 use Rattle.radio.proofs.code_behind.Statement.{statement}
@@ -26,7 +24,11 @@ same-length : tie.Need-same-length
 same-length c = search needs
 
 returns : tie.Need-returns
-returns c = behind-part (c .before .before .before .before .code-of .result) (lineOf (c .before .before .before .before .before .before .before .args .kind)) (c .before .before .before .before .before .before .before .args .p .now) (c .before .before .before .before .before .before .before .args .out .now) (c .before .before .before .before .before .before .before .args .start) (c .before .before .encode .result) (c .before .before .encode .last .1 .1 .0) (c .before .before .before .before .before .before .before .pre) (ap codeOf (c .before .before .before .before .code-of .ensures)) (c .before .before .encode .ensures)
+returns c =
+    let e = c .before .before in
+    let p = e .before .before .before .before .before in
+    let coded = rw (e .before .before .code-of .ensures) at (e .encode .ensures) in
+    behind-part (lineOf (p .args .kind)) (p .args .p .now) (p .args .out .now) (p .args .start) (p .pre) coded
 
 pub code-behind-spec : {M : Type 1} → statement M
 code-behind-spec =

@@ -1,42 +1,68 @@
--- Decoding is told by one law (CodedLaws) for all its answers; where it accepts, the bytes read are those decoded.
-use mathlib.Core.Path.{_≡_, _∙_}
-use Prim.Native.Nat.{_+_}
+-- Decoding is told by one law (DecodeCallLaws) for both its answers; where it accepts, the bytes read are those
+-- decoded.
+use mathlib.Core.List.{List}
+use mathlib.Core.Path.{_≡_, ap, sym, _∙_}
+use Prim.Native.Nat.{ℕ, _+_}
 use native.Mathlib.Omega.{arith}
-use lib.ListN.{replicate, length-replicate, take, length-take}
-use Rattle.ground.specs.Outcome.{Outcome}
-use Rattle.line.specs.declared.Decoded.{Decoded}
+use lib.ListN.{replicate, length-replicate, length-take}
+use Rattle.answers.specs.Outcome.{Outcome}
 use Rattle.line.specs.Decoding.{decoding}
+use Rattle.frame.specs.declared.Frame.{Frame}
+use Rattle.frame.specs.Reads.{readingOf}
 use Rattle.sync.specs.Kinds.{leadOf}
-use Rattle.radio.specs.declared.Reception.{Reception}
-use Rattle.radio.specs.Kinds.{lineOf, formatOf}
-use Rattle.radio.specs.Receiving.{coded, bySize}
-use Rattle.radio.proofs.CodedLaws.{codedBy, coded-told, decoded-there, reading-told, Decoding}
+use Rattle.radio.specs.KindParts.{lineOf, formatOf}
+use Rattle.radio.specs.Receiving.{byFrame, bySize}
+use Rattle.radio.proofs.DecodeCallLaws.{DecodeCall, afterDecoded-called, take-called}
 use borrow.Author.Needs.{needs}
 use Rattle.radio.proofs.whole.Statement.{statement}
 use Rattle.radio.proofs.whole.Tie as tie
 
+abbrev at-start : tie.After-decode → tie.Start
+at-start c = c .before .before .before .before .before .before
+
+abbrev at-decode : tie.After-read → tie.After-decode
+at-decode c = c .before .before .before .before .before .before .before
+
+-- what `read` left in the lent memory
+abbrev left : tie.After-read → List ℕ
+left c = c .read .last .1 .1 .0
+
 -- the call of `decode`, seen from right behind it
-called : (c : tie.After-decode)
-    → Decoding (c .before .before .before .before .before .before .args .kind) (c .before .before .before .before .before .before .args .s .now) (c .before .before .before .before .before .before .args .place) (c .before .before .before .before .before .before .args .size)
-    (c .before .before .before .code-of .result) (c .before .before .lead .result) (replicate 290 0) (c .decode .result) (c .decode .last .1 .1 .1 .1 .0)
-called c =
+decode-called :
+    (c : tie.After-decode) → let a = at-start c .args in
+    DecodeCall (a .kind) (a .s .now) (a .place) (a .size) (c .decode .result) (c .decode .last .1 .1 .1 .1 .0)
+decode-called c =
+    let code = c .before .before .before .code-of .ensures in
+    let lead = c .before .before .lead .ensures .0 in
     record {
-      kept = c .decode .ensures;
-      code-is = c .before .before .before .code-of .ensures;
-      lead-is = c .before .before .lead .ensures .0;
-      short = c .before .before .before .before .before .before .pre .0 .0;
-      inside = c .before .before .before .before .before .before .pre .0 .1;
-      room-there = rw (length-replicate 290) (c .before .before .before .before .before .before .pre .1);
+      room = replicate 290 0;
+      fits = rw (length-replicate 290) (at-start c .pre .1);
+      outcome = rw (code, lead) at (c .decode .ensures);
     }
 
--- what its answer a makes of the whole
-turned : (c : tie.After-decode) (a : Decoded) → c .decode .result ≡ a → (next : Outcome Reception)
-    → codedBy a (c .before .before .before .before .before .before .args .out .now) next
-    ≡ coded (lineOf (c .before .before .before .before .before .before .args .kind)) (c .before .before .before .before .before .before .args .s .now) (c .before .before .before .before .before .before .args .place + leadOf (c .before .before .before .before .before .before .args .kind)) (c .before .before .before .before .before .before .args .size) (c .before .before .before .before .before .before .args .out .now) next
-turned c a e next =
-    coded-told (c .before .before .before .before .before .before .args .kind) (c .before .before .before .before .before .before .args .s .now) (c .before .before .before .before .before .before .args .place) (c .before .before .before .before .before .before .args .size)
-    (c .before .before .before .code-of .result) (c .before .before .lead .result) (replicate 290 0) (c .decode .result) (c .decode .last .1 .1 .1 .1 .0) (called c)
-    a e (c .before .before .before .before .before .before .args .out .now) next
+-- the call of `read`: what it read is what was decoded
+read-decoded :
+    (c : tie.After-read) → let a = at-start (at-decode c) .args in
+    let bytes = decoding (lineOf (a .kind)) (a .s .now) (a .place + leadOf (a .kind)) (a .size) in
+    _≡_ {A = Outcome Frame} (record { answer = c .read .result; memory = left c })
+    (readingOf (formatOf (a .kind)) bytes (a .out .now))
+read-decoded c =
+    let e = c .before .before .before in
+    let bytes = take-called (decode-called (at-decode c)) (e .before .enum-told .given .1) in
+    rw (e .format-of .ensures, bytes) at (c .read .ensures)
+
+-- what its answer x makes of the frame
+byFrame-read :
+    (c : tie.After-read) {x : Frame} → c .read .result ≡ x → let a = at-start (at-decode c) .args in
+    byFrame (a .kind) (a .place) (a .tried) (left c) x
+    ≡ bySize (a .kind) (a .place) (a .tried) (a .s .now) (a .out .now) (Frame.Accepted (a .size) 0)
+unfolding bySize
+byFrame-read c e =
+    let a = at-start (at-decode c) .args in
+    let told = c .before .before .before .before .enum-told .given .1 in
+    ap (byFrame (a .kind) (a .place) (a .tried) (left c)) (sym e)
+    ∙ ap (λ (o : Outcome Frame). byFrame (a .kind) (a .place) (a .tried) (o .memory) (o .answer)) (read-decoded c)
+    ∙ afterDecoded-called (decode-called (at-decode c)) told (a .out .now) _
 
 code-of-requires : tie.Need-code-of-requires
 code-of-requires c κs = search needs
@@ -68,49 +94,31 @@ slice-aggregate-read c = simp length-take (omega arith)
 read-requires : tie.Need-read-requires
 read-requires c κs = search needs
 
-answer-requires : tie.Need-answer-requires
-answer-requires c κs = search needs
+enum-known-size : tie.Need-enum-known-size
+enum-known-size c = search needs
 
-enum-told-2 : tie.Need-enum-told-2
-enum-told-2 c = search needs
+enum-known-refusal : tie.Need-enum-known-refusal
+enum-known-refusal c = search needs
 
-enum-known-i : tie.Need-enum-known-i
-enum-known-i c = search needs
-
-enum-told-3 : tie.Need-enum-told-3
-enum-told-3 c = search needs
-
-enum-told-4 : tie.Need-enum-told-4
-enum-told-4 c = search needs
+enum-known-refusal-2 : tie.Need-enum-known-refusal-2
+enum-known-refusal-2 c = search needs
 
 same-length : tie.Need-same-length
 same-length c = search needs
 
-returns : tie.Need-returns
-unfolding bySize
-returns c =
-    reading-told (c .before .before .before .before .before .before .before .before .before .before .before .before .before .before .before .before .args .kind) (c .before .before .before .before .before .before .before .before .before .before .before .before .before .before .before .before .args .place) (c .before .before .before .before .before .before .before .before .before .before .before .before .before .before .before .before .args .tried) (c .answer .result) (c .before .before .before .read .result) (c .before .before .before .read .last .1 .1 .0)
-    (c .before .before .before .before .before .before .format-of .result) (formatOf (c .before .before .before .before .before .before .before .before .before .before .before .before .before .before .before .before .args .kind)) (take (c .before .before .before .before .before .before .before .before .before .before .before .before .before .before .before .before .args .size) (c .before .before .before .before .before .before .before .before .before .before .decode .last .1 .1 .1 .1 .0))
-    (decoding (lineOf (c .before .before .before .before .before .before .before .before .before .before .before .before .before .before .before .before .args .kind)) (c .before .before .before .before .before .before .before .before .before .before .before .before .before .before .before .before .args .s .now) (c .before .before .before .before .before .before .before .before .before .before .before .before .before .before .before .before .args .place + leadOf (c .before .before .before .before .before .before .before .before .before .before .before .before .before .before .before .before .args .kind)) (c .before .before .before .before .before .before .before .before .before .before .before .before .before .before .before .before .args .size)) (c .before .before .before .before .before .before .before .before .before .before .before .before .before .before .before .before .args .out .now)
-    (c .answer .ensures) (c .before .before .before .read .ensures) (c .before .before .before .before .before .before .format-of .ensures)
-    (decoded-there (c .before .before .before .before .before .before .before .before .before .before .before .before .before .before .before .before .args .kind) (c .before .before .before .before .before .before .before .before .before .before .before .before .before .before .before .before .args .s .now) (c .before .before .before .before .before .before .before .before .before .before .before .before .before .before .before .before .args .place) (c .before .before .before .before .before .before .before .before .before .before .before .before .before .before .before .before .args .size) (c .before .before .before .before .before .before .before .before .before .before .before .before .before .code-of .result) (c .before .before .before .before .before .before .before .before .before .before .before .before .lead .result) (replicate 290 0) (c .before .before .before .before .before .before .before .before .before .before .decode .result) (c .before .before .before .before .before .before .before .before .before .before .decode .last .1 .1 .1 .1 .0) (called (c .before .before .before .before .before .before .before .before .before .before)) (c .before .before .before .before .before .before .before .enum-told .given .1))
-    ∙ turned (c .before .before .before .before .before .before .before .before .before .before) Decoded.Accepted (c .before .before .before .before .before .before .before .enum-told .given .1) _
-
-returns-2 : tie.Need-returns-2
-unfolding bySize
-returns-2 c = turned (c .before .before .before) Decoded.Short (c .enum-told2 .given .1) _
-
 returns-3 : tie.Need-returns-3
 unfolding bySize
-returns-3 c = turned (c .before .before .before .before) (Decoded.BadWord (c .before .i .given .0 .0)) (c .before .i .given .1) _
+returns-3 c =
+    afterDecoded-called (decode-called (c .before .before .before .before)) (c .before .refusal2 .given .1) _ _
 
-returns-4 : tie.Need-returns-4
-unfolding bySize
-returns-4 c = turned (c .before .before .before) Decoded.NoRoom (c .enum-told3 .given .1) _
+returns : tie.Need-returns
+returns c = byFrame-read (c .before .before .before .before .before) (c .before .size .given .1)
 
-returns-5 : tie.Need-returns-5
-unfolding bySize
-returns-5 c = turned (c .before .before .before) Decoded.OutOfRange (c .enum-told4 .given .1) _
+same-length-2 : tie.Need-same-length-2
+same-length-2 c = search needs
+
+returns-2 : tie.Need-returns-2
+returns-2 c = byFrame-read (c .before .before .before .before .before) (c .before .refusal .given .1)
 
 pub whole-spec : {M : Type 1} → statement M
 whole-spec =
@@ -126,14 +134,11 @@ whole-spec =
     array-share-prefix-bytes
     slice-aggregate-read
     read-requires
-    answer-requires
-    enum-told-2
-    enum-known-i
-    enum-told-3
-    enum-told-4
+    enum-known-size
+    enum-known-refusal
+    enum-known-refusal-2
     same-length
     returns
+    same-length-2
     returns-2
-    returns-3
-    returns-4
-    returns-5)
+    returns-3)

@@ -1,14 +1,14 @@
--- The loop's invariant: all of the i places so far were passed over; a turn passes over the n that one window holds.
+-- The loop's invariant: the word stands at none of the i places so far; a turn passes over the n that one window holds.
 use mathlib.Core.Bool.{Bool}
 use mathlib.Core.List.{List}
-use mathlib.Core.Path.{_≡_, ap, _∙_}
-use Prim.Native.Nat.{ℕ, _+_, _-_, _/_, _%_, _^_, _≤_}
+use mathlib.Core.Path.{_≡_, sym, ap, _∙_}
+use Prim.Native.Nat.{ℕ, _+_, _-_, _%_, _≤_}
+use native.Mathlib.Nat.{not-suc-le-zero}
 use native.Mathlib.Omega.{arith}
 use borrow.Author.Needs.{needs}
-use lib.Dec.{eqb}
 use Rattle.sync.specs.SyncSearch.{passed, standsAt, syncWord, syncWidth}
-use Rattle.sync.proofs.PassedLaws.{passed-le, passed-on, passed-stop}
-use Rattle.sync.proofs.WindowLaws.{passed-window}
+use Rattle.sync.proofs.PassedLaws.{Missed, passed-none}
+use Rattle.sync.proofs.ScanLaws.{standsIn, passed-window, Turn, turn-hit, turn-miss}
 use Rattle.sync.proofs.scan.Statement.{statement}
 use Rattle.sync.proofs.scan.Tie as tie
 
@@ -17,13 +17,29 @@ abbrev syncAt : List ℕ → ℕ → Bool
 syncAt s k = standsAt syncWord syncWidth s k
 
 abbrev Inv-loop : tie.InvT-loop
-Inv-loop s start m i₀ i = (i ≤ m) × (i ≤ passed (syncAt s) start i)
+Inv-loop s start m i₀ i = (i ≤ m) × Missed (syncAt s) start i
 
 abbrev μ-loop : tie.MeasureT-loop
 μ-loop s start m i₀ i = m - i
 
+-- what first_in counted in the window is the walk over the n places from start + i on
+turn :
+    (c : tie.After-first-in Inv-loop μ-loop)
+    → let l = c .before .before .before .before in let at = l .before .before .args in
+    Turn (syncAt (at .s .now)) (at .start) (at .m) (l .loop .i) (c .before .before .smaller .result)
+    (c .first-in .result)
+turn c =
+    let t = c .before .before in
+    let l = t .before .before in
+    let at = l .before .before .args in
+    let n = t .smaller .result in
+    let k = at .start + l .loop .i in
+    let window = ap (λ (x : ℕ). passed (standsIn syncWord x) (k % 8) n) (c .before .window .ensures) in
+    let over = c .first-in .ensures ∙ window ∙ passed-window syncWord (at .s .now) k n (omega arith) in
+    record { missed = l .loop .inv .1; fits = omega arith; over = over }
+
 loop-holds : tie.Need-loop-holds Inv-loop μ-loop
-loop-holds c = search needs
+loop-holds c = (omega arith, λ j l. absurd (not-suc-le-zero l))
 
 add-k : tie.Need-add-k Inv-loop μ-loop
 add-k c = search needs
@@ -46,26 +62,8 @@ first-in-requires c κs = search needs
 add-result : tie.Need-add-result Inv-loop μ-loop
 add-result c = search needs
 
--- what first_in counted in the window is the walk over the n places from start + i on
-in-window : (c : tie.After-first-in Inv-loop μ-loop) → c .first-in .result ≡ passed (syncAt (c .before .before .before .before .before .before .args .s .now)) (c .before .before .before .before .before .before .args .start + c .before .before .before .before .loop .i) (c .before .before .smaller .result)
-in-window c =
-    let s = c .before .before .before .before .before .before .args .s .now in
-    let k = c .before .before .before .before .before .before .args .start + c .before .before .before .before .loop .i in
-    let n = c .before .before .smaller .result in
-    c .first-in .ensures
-    ∙ ap (λ (x : ℕ). passed (λ j. eqb (x / 2 ^ (48 - j) % 65536) syncWord) (k % 8) n) (c .before .window .ensures)
-    ∙ passed-window syncWord s k n (omega arith)
-
 returns : tie.Need-returns Inv-loop μ-loop
-returns c =
-    let s = c .before .before .before .before .before .before .before .args .s .now in
-    let start = c .before .before .before .before .before .before .before .args .start in
-    let i = c .before .before .before .before .before .loop .i in
-    let n = c .before .before .before .smaller .result in
-    let on : passed (syncAt s) start (i + n) ≡ i + passed (syncAt s) (start + i) n = passed-on (syncAt s) start i n (c .before .before .before .before .before .loop .inv .1) in
-    let here : c .before .first-in .result ≡ passed (syncAt s) (start + i) n = in-window (c .before) in
-    let stop : passed (syncAt s) start (c .before .before .before .before .before .before .before .args .m) ≡ passed (syncAt s) start (i + n) = passed-stop (syncAt s) start (i + n) (c .before .before .before .before .before .before .before .args .m) (omega arith) (omega arith) in
-    omega arith
+returns c = turn-hit (turn (c .before)) (omega arith)
 
 add-i : tie.Need-add-i Inv-loop μ-loop
 add-i c = search needs
@@ -74,23 +72,13 @@ loop-less : tie.Need-loop-less Inv-loop μ-loop
 loop-less c = search needs
 
 loop-again : tie.Need-loop-again Inv-loop μ-loop
-loop-again c =
-    let s = c .before .before .before .before .before .before .before .args .s .now in
-    let start = c .before .before .before .before .before .before .before .args .start in
-    let i = c .before .before .before .before .before .loop .i in
-    let n = c .before .before .before .smaller .result in
-    let on : passed (syncAt s) start (i + n) ≡ i + passed (syncAt s) (start + i) n = passed-on (syncAt s) start i n (c .before .before .before .before .before .loop .inv .1) in
-    let here : c .before .first-in .result ≡ passed (syncAt s) (start + i) n = in-window (c .before) in
-    omega arith
+loop-again c = (omega arith, turn-miss (turn (c .before)) (omega arith))
 
 returns-2 : tie.Need-returns-2 Inv-loop μ-loop
 returns-2 c =
-    let s = c .before .before .before .args .s .now in
-    let start = c .before .before .before .args .start in
-    let m = c .before .before .before .args .m in
-    let same : c .before .loop .i ≡ m = omega arith in
-    let all : c .before .loop .i ≤ passed (syncAt s) start (c .before .loop .i) = c .before .loop .inv .1 in
-    omega (arith, passed-le (syncAt s) start m, ap (passed (syncAt s) start) same)
+    let at = c .before .before .before .args in
+    let all : c .before .loop .i ≡ at .m = omega arith in
+    rw all (sym (passed-none (syncAt (at .s .now)) (at .start) (at .m) (rw all at (c .before .loop .inv .1))))
 
 pub scan-spec : {M : Type 1} → statement M
 scan-spec =

@@ -1,23 +1,42 @@
--- Each answer is the case law of the search at what was found on the way: p positions, m of them allowed, i passed over.
+-- Each answer is the case law of the search at what it has at hand.
 use mathlib.Core.Path.{sym}
 use native.Mathlib.Omega.{arith}
+use Rattle.chips.proofs.RangeLaws.{InBuffer, inRange-kept, inRange-refused}
 use Rattle.sync.specs.SyncSearch.{syncWord, syncWidth}
-use Rattle.sync.proofs.SearchLaws.{searchFor-long, searchFor-behind, searchFor-found, searchFor-all, searchFor-used}
+use Rattle.sync.proofs.SearchLaws.{Scanned, searchFor-outside, searchFor-found, searchFor-all, searchFor-used}
 use borrow.Author.Needs.{needs}
 use Rattle.sync.proofs.search.Statement.{statement}
 use Rattle.sync.proofs.search.Tie as tie
 
+-- behind the first test the place is in range
+room : (c : tie.Else1) → let at = c .before .before .before .args in InBuffer (at .s .now) (at .start)
+room c = inRange-kept (c .before .in-range .ensures) (c .if1 .left)
+
+-- what the search has at hand behind its walk
+scanned :
+    (c : tie.After-scan)
+    → let at = c .before .before .before .before .before .before .args in
+    Scanned syncWord syncWidth (at .s .now) (at .start) (at .allowance)
+    (c .before .before .available .result) (c .before .smaller .result) (c .scan .result)
+scanned c =
+    record {
+      within = room (c .before .before .before);
+      there = omega arith;
+      most = c .before .smaller .ensures;
+      over = c .scan .ensures;
+    }
+
+in-range-requires : tie.Need-in-range-requires
+in-range-requires c κs = search needs
+
 returns : tie.Need-returns
-returns c = sym (searchFor-long syncWord syncWidth (c .before .before .args .s .now) (c .before .before .args .start) (c .before .before .args .allowance) (omega arith))
-
-mul-if2 : tie.Need-mul-if2
-mul-if2 c = search needs
-
-returns-2 : tie.Need-returns-2
-returns-2 c = sym (searchFor-behind syncWord syncWidth (c .before .before .before .args .s .now) (c .before .before .before .args .start) (c .before .before .before .args .allowance) (omega arith))
+returns c =
+    let at = c .before .before .before .args in
+    sym (searchFor-outside syncWord syncWidth (at .s .now) (at .start) (at .allowance)
+    (inRange-refused (at .s .now) (at .start) (c .before .in-range .ensures) (c .if1 .taken)))
 
 mul-available : tie.Need-mul-available
-mul-available c = search needs
+mul-available c = omega (arith, room c)
 
 available-requires : tie.Need-available-requires
 available-requires c κs = search needs
@@ -26,57 +45,35 @@ smaller-requires : tie.Need-smaller-requires
 smaller-requires c κs = search needs
 
 scan-requires : tie.Need-scan-requires
-scan-requires c κs = search needs
+scan-requires c κs = omega (arith, room (c .before .before))
 
-add-t10 : tie.Need-add-t10
-add-t10 c = search needs
+add-t12 : tie.Need-add-t12
+add-t12 c = omega (arith, room (c .before .before .before .before))
 
-add-t11 : tie.Need-add-t11
-add-t11 c = search needs
+add-t13 : tie.Need-add-t13
+add-t13 c = omega (arith, room (c .before .before .before .before))
+
+returns-2 : tie.Need-returns-2
+returns-2 c = sym (searchFor-found (scanned (c .before)) (omega arith))
 
 returns-3 : tie.Need-returns-3
-returns-3 c =
-    let s = c .before .before .before .before .before .before .before .args .s .now in
-    let start = c .before .before .before .before .before .before .before .args .start in
-    let a = c .before .before .before .before .before .before .before .args .allowance in
-    let p = c .before .before .before .available .result in
-    let m = c .before .before .smaller .result in
-    let i = c .before .scan .result in
-    sym (searchFor-found syncWord syncWidth s start a p m i (omega arith) (omega arith) (omega arith) (omega arith) (c .before .scan .ensures) (omega arith))
+returns-3 c = sym (searchFor-all (scanned (c .before .before)) (omega arith) (omega arith))
 
 returns-4 : tie.Need-returns-4
-returns-4 c =
-    let s = c .before .before .before .before .before .before .before .before .args .s .now in
-    let start = c .before .before .before .before .before .before .before .before .args .start in
-    let a = c .before .before .before .before .before .before .before .before .args .allowance in
-    let p = c .before .before .before .before .available .result in
-    let m = c .before .before .before .smaller .result in
-    let i = c .before .before .scan .result in
-    sym (searchFor-all syncWord syncWidth s start a p m i (omega arith) (omega arith) (omega arith) (omega arith) (c .before .before .scan .ensures) (omega arith) (omega arith))
-
-returns-5 : tie.Need-returns-5
-returns-5 c =
-    let s = c .before .before .before .before .before .before .before .before .args .s .now in
-    let start = c .before .before .before .before .before .before .before .before .args .start in
-    let a = c .before .before .before .before .before .before .before .before .args .allowance in
-    let p = c .before .before .before .before .available .result in
-    let m = c .before .before .before .smaller .result in
-    let i = c .before .before .scan .result in
-    sym (searchFor-used syncWord syncWidth s start a p m i (omega arith) (omega arith) (omega arith) (omega arith) (c .before .before .scan .ensures) (omega arith) (omega arith))
+returns-4 c = sym (searchFor-used (scanned (c .before .before)) (omega arith) (omega arith))
 
 pub search-spec : {M : Type 1} → statement M
 search-spec =
     tie.close
     (tie.spec
+    in-range-requires
     returns
-    mul-if2
-    returns-2
     mul-available
     available-requires
     smaller-requires
     scan-requires
-    add-t10
-    add-t11
+    add-t12
+    add-t13
+    returns-2
     returns-3
-    returns-4
-    returns-5)
+    returns-4)

@@ -19,7 +19,7 @@ cast-result-3 : tie.Need-cast-result-3
 cast-result-3 c = omega (arith, leading-le 64 (up (marks (c .args .x)) (c .args .r)))
 
 returns : tie.Need-returns
-returns c = λ i h inside e. unmarked-run (c .args .x) (c .args .r) i h inside e
+returns c = λ i h inside. unmarked-run (c .args .x) (c .args .r) i inside h
 
 pub unmarked-spec : {M : Type 1} → statement M
 unmarked-spec = tie.close (tie.spec cast-result cast-result-2 shl-result cast-result-3 returns)

@@ -1,4 +1,4 @@
--- `FormatB::frame_size` meets its contract: the two ranges of L, and what lies before, between and behind them. Assumes nothing.
+-- `FormatB::frame_size` meets its contract: the two ranges of L, and what lies outside them. Assumes nothing.
 use mathlib.Core.Path.{_≡_}
 use Prim.Native.Nat.{_+_, _-_}
 use native.Mathlib.Omega.{arith}
@@ -9,6 +9,9 @@ use Rattle.frame.specs.Formats.{frameSize}
 use Rattle.frame.proofs.FormatLaws.{frameSize-B, frameSize-B-long}
 use Rattle.frame.proofs.FormatB.frame_size.Statement.{statement}
 use Rattle.frame.proofs.FormatB.frame_size.Tie as tie
+
+add-size : tie.Need-add-size
+add-size c = search needs
 
 add-if1 : tie.Need-add-if1
 add-if1 c = search needs
@@ -21,11 +24,8 @@ returns c =
 add-if2 : tie.Need-add-if2
 add-if2 c = search needs
 
-add-t5 : tie.Need-add-t5
-add-t5 c = search needs
-
-sub-t6 : tie.Need-sub-t6
-sub-t6 c = search needs
+sub-n : tie.Need-sub-n
+sub-n c = search needs
 
 returns-2 : tie.Need-returns-2
 returns-2 c =
@@ -41,30 +41,22 @@ returns-3 c =
     let l = c .before .before .before .args .l in
     rw (le-leb 12 l (omega arith), lt-leb l 127 (omega arith), lt-leb 130 l (omega arith))
 
-add-t3 : tie.Need-add-t3
-add-t3 c = search needs
-
-sub-t7 : tie.Need-sub-t7
-sub-t7 c = search needs
+sub-n-2 : tie.Need-sub-n-2
+sub-n-2 c = search needs
 
 returns-4 : tie.Need-returns-4
 returns-4 c =
     let l = c .before .before .before .args .l in
     let size : frameSize B (l - 4) ≡ l + 1 = omega (arith, frameSize-B-long (l - 4) (omega arith) (omega arith)) in
-    rw (le-leb 12 l (omega arith), lt-leb l 127 (omega arith), le-leb 130 l (omega arith), le-leb l 255 (omega arith), size)
+    rw (
+      le-leb 12 l (omega arith),
+      lt-leb l 127 (omega arith),
+      le-leb 130 l (omega arith),
+      le-leb l 255 (omega arith),
+      size,
+    )
 
 pub frame-size-spec : {M : Type 1} → statement M
 frame-size-spec =
     tie.close
-    (tie.spec
-    add-if1
-    returns
-    add-if2
-    add-t5
-    sub-t6
-    returns-2
-    add-if3
-    returns-3
-    add-t3
-    sub-t7
-    returns-4)
+    (tie.spec add-size add-if1 returns add-if2 sub-n returns-2 add-if3 returns-3 sub-n-2 returns-4)

@@ -1,0 +1,3 @@
+pub mod LettersLaws
+pub mod NameLaws
+pub mod WorkedExamples

@@ -1,0 +1,91 @@
+// What a meter is called (EN 13757-4:2019, 12.5.5, 12.5.6; document 01, "Extended headers and names"): M, the number of
+// its maker, with the letters that it stands for, and A, six bytes.
+
+ghost use mathlib.Core.Path.{_≡_};
+ghost use mathlib.Core.List.{[], _∷_};
+ghost use Prim.Native.Nat.{_+_, _<_};
+ghost use lib.ListN.{length};
+ghost use lib.Seq.{sets};
+ghost use Rattle.address.specs.Letters.{isLetter, lettersOf};
+ghost use Rattle.address.specs.Names.{twoAt, nameBytes, nameAt};
+
+// Three letters as ASCII bytes, 'A' to 'Z'.
+pub enum Maker {
+    Three(u8, u8, u8),
+    NoLetters,
+}
+
+// A: six bytes as they are sent. No array, since an answer could not carry it.
+pub struct Address(pub u8, pub u8, pub u8, pub u8, pub u8, pub u8);
+
+// M and A.
+pub struct Name {
+    pub m: u16,
+    pub a: Address,
+}
+
+fn is_letter(v: u16) -> bool
+    ensures { λ r. ⌜ r ≡ isLetter v ⌝ }
+{
+    1 <= v && v <= 26
+}
+
+// The letters of M (12.5.5): five bits each, below the top bit.
+pub fn letters(m: u16) -> Maker
+    ensures { λ r. ⌜ r ≡ lettersOf m ⌝ }
+{
+    let first = m / 1024 % 32;
+    let second = m / 32 % 32;
+    let third = m % 32;
+    if !is_letter(first) {
+        return Maker::NoLetters;
+    }
+    if !is_letter(second) {
+        return Maker::NoLetters;
+    }
+    if !is_letter(third) {
+        return Maker::NoLetters;
+    }
+    Maker::Three((first + 64) as u8, (second + 64) as u8, (third + 64) as u8)
+}
+
+// Numbers are sent with the least significant byte first (12.2).
+pub fn two_at(s: &[u8], k: usize) -> u16
+    requires { ⌜ k + 1 < length (now s) ⌝ }
+    ensures { λ r. ⌜ r ≡ twoAt (now (s .entry)) k ⌝ }
+{
+    s[k] as u16 + 256 * (s[k + 1] as u16)
+}
+
+// M and A, from place k on.
+pub fn name_at(s: &[u8], k: usize) -> Name
+    requires { ⌜ k + 7 < length (now s) ⌝ }
+    ensures { λ r. ⌜ r ≡ nameAt (now (s .entry)) k ⌝ }
+{
+    Name {
+        m: two_at(s, k),
+        a: Address(s[k + 2], s[k + 3], s[k + 4], s[k + 5], s[k + 6], s[k + 7]),
+    }
+}
+
+// Stores four bytes from place k on.
+pub fn put_four(out: &mut [u8], k: usize, a: u8, b: u8, c: u8, d: u8)
+    requires { ⌜ k + 3 < length (now out) ⌝ }
+    ensures { λ r. ⌜ now (out .exit) ≡ sets (now (out .entry)) k (a ∷ b ∷ c ∷ d ∷ []) ⌝ }
+{
+    out[k] = a;
+    out[k + 1] = b;
+    out[k + 2] = c;
+    out[k + 3] = d;
+}
+
+// Stores M and A from place k on.
+pub fn put_name(out: &mut [u8], k: usize, name: Name)
+    requires { ⌜ k + 7 < length (now out) ⌝ }
+    ensures { λ r. ⌜ now (out .exit) ≡ sets (now (out .entry)) k (nameBytes name) ⌝ }
+{
+    let m = name.m;
+    let a = name.a;
+    put_four(out, k, (m % 256) as u8, (m / 256) as u8, a.0, a.1);
+    put_four(out, k + 4, a.2, a.3, a.4, a.5);
+}

@@ -1,0 +1,38 @@
+-- The refusals (document 01, "Answer numbers"): the table's first and third column.
+--     numberOf r    the number that a refusal is given under; 0 is acceptance and no refusal
+--     valueOf r     what it returns besides: "nothing" is 0
+use Prim.Native.Nat.{ℕ}
+use Rattle.answers.specs.declared.Refusal.{Refusal}
+use Rattle.answers.specs.declared.Refusal.the-variants.{Short, BadLength, WrongCheck, NoRoom, BadContent, BadWord, NoSync, UnknownTail, BadPlace, OutOfRange, UnknownCi, ShortBody, NoSuchChannel, UsedUp}
+
+abbrev pub numberOf : Refusal → ℕ
+numberOf Short = 1
+numberOf BadLength = 2
+numberOf (WrongCheck block) = 3
+numberOf NoRoom = 4
+numberOf BadContent = 5
+numberOf (BadWord word) = 6
+numberOf (NoSync tried) = 7
+numberOf (UnknownTail place) = 8
+numberOf BadPlace = 9
+numberOf OutOfRange = 10
+numberOf UnknownCi = 11
+numberOf ShortBody = 12
+numberOf NoSuchChannel = 13
+numberOf (UsedUp tried) = 14
+
+abbrev pub valueOf : Refusal → ℕ
+valueOf Short = 0
+valueOf BadLength = 0
+valueOf (WrongCheck block) = block
+valueOf NoRoom = 0
+valueOf BadContent = 0
+valueOf (BadWord word) = word
+valueOf (NoSync tried) = tried
+valueOf (UnknownTail place) = place
+valueOf BadPlace = 0
+valueOf OutOfRange = 0
+valueOf UnknownCi = 0
+valueOf ShortBody = 0
+valueOf NoSuchChannel = 0
+valueOf (UsedUp tried) = tried

@@ -1,0 +1,24 @@
+//! The letters of a maker's number.
+use super::Command;
+use crate::args::Args;
+use crate::reply::Reply;
+
+pub const COMMANDS: &[Command] = &[
+    Command {
+        name: "letters",
+        usage: "M",
+        does: "the manufacturer's letters, M as a number of four hex digits",
+        example: "letters 0443",
+        run: letters,
+    },
+];
+
+fn letters(mut a: Args) -> Result<Reply, String> {
+    let m = u16::from_be_bytes(a.fixed::<2>("M")?);
+    a.end()?;
+    let text = match kusikhut::letters(m) {
+        Some(letters) => letters.iter().map(|&b| b as char).collect(),
+        None => String::from("none"),
+    };
+    Ok(Reply::accepted().field("letters", text))
+}

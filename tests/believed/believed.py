@@ -1,0 +1,264 @@
+#!/usr/bin/env python3
+"""What a reader must believe: the definitions that the demands and the public contracts stand on.
+
+  believed.py [--list] [--write]
+
+Proofs are the checker's business; definitions are the reader's. This starts from the page of demands
+(crates/demands/proofs/Demands.antt: the types of its theorems and the fields of its records), follows every name to
+where it is defined, and goes on from there until nothing new is met. It does the same from the page of the calls that
+are lent no memory (Unlent.antt beside it), from the starred table (Starred.antt, both sides of it) and from the
+contracts of all public functions (`pub fn` of crates/*/src: signature, `requires`, `ensures`). Counted are
+
+  definitions          functions, records and data types of the antt files, crates/*/specs/*.antt
+  enums and structs    those of crates/*/src that are met on the way
+  lines, files         of either, comments and blank lines left out (imports stand in no definition)
+
+The pages themselves are not counted, nor what the kit defines (lists, numbers, floats).
+
+It fails where
+  - a page or the table reaches a definition of a proofs/ folder;
+  - a definition of specs/ is reached neither from them nor from a public contract. A file Inner.antt is for those that
+    only contracts of inner functions reach: nobody has to believe them;
+  - a definition of an Inner.antt is reached from any of them;
+  - a name of the project cannot be followed, or is a definition and a variable of the same text;
+  - docs/BELIEVED.md does not have the figures that are counted.
+--list prints what is reached and what names it, --write puts the figures into docs/BELIEVED.md. can_fail.py plants each
+fault.
+"""
+import re
+import sys
+from collections import namedtuple
+from pathlib import Path
+
+DEMANDS, UNLENT, STARRED = (f"crates/demands/proofs/{page}.antt" for page in ("Demands", "Unlent", "Starred"))
+PUBLISHED = Path("docs/BELIEVED.md")
+MARKS = r"(?:(?:abbrev|unfoldable|pub|opaque) )*"
+SIGNATURE = re.compile(rf"^{MARKS}([^\s(){{}};,.]+)\s*:(?:\s|$)")
+TYPE = re.compile(rf"^{MARKS}(?:record|data) ([^\s(){{}}]+)")
+IMPORT = re.compile(r"^(?:ghost )?(?:unfoldable )?(?:pub )?use ([^\s{;]+?)(?:\.\{([^}]*)\}| as ([^\s;]+))?;?$")
+WORD = re.compile(r"[^\s(){}⌜⌝⟦⟧,;]+")
+LABEL = re.compile(r"([{;]\s*)[^\s=;{}()]+ = |^(\s+)(?:pub )?[^\s:(){}]+ :(?=\s|$)", re.M)
+BINDERS = [re.compile(x) for x in (r"[({]([^\s(){}:]+(?: [^\s(){}:]+)*) :", r"λ ([^.()]+)\.", r"\blet ([^\s=:(]+)")]
+
+# A declaration: where it stands, its name, and its text without comments.
+Item = namedtuple("Item", "path name text")
+
+
+def code(path):
+    """A file's lines, comments and blank lines taken out."""
+    mark = "//" if path.suffix == ".rt" else "--"
+    lines = (re.sub(rf"(^|\s){mark}.*$", "", line).rstrip() for line in path.read_text(encoding="utf-8").splitlines())
+    return [line for line in lines if line]
+
+
+def imports(path):
+    """What a file brings: names as (module, name), and modules under a short name."""
+    names, modules = {}, {}
+    for module, listed, short in (m.groups() for m in map(IMPORT.match, code(path)) if m):
+        if listed is not None:
+            for part in filter(None, (x.strip() for x in listed.split(","))):
+                name, _, other = part.partition(" as ")
+                names[other or name] = (module, name)
+        elif "::" in module:
+            names[short or module.split("::")[-1]] = (module, "")
+        else:
+            modules[short or module.split(".")[-1]] = module
+    return names, modules
+
+
+def declarations(path):
+    """The declarations of an antt file, in order."""
+    out = []
+    for line in code(path):
+        if IMPORT.match(line) or re.match(r"(pub )?mod ", line):
+            continue
+        m = TYPE.match(line) or SIGNATURE.match(line)
+        if m:
+            out.append(Item(str(path), m.group(1), [line]))
+        elif out:
+            out[-1].text.append(line)
+    return out
+
+
+def rust_types(path):
+    """The enums and structs of a source file."""
+    lines = code(path)
+    for no, line in enumerate(lines):
+        m = re.match(r"(?:pub )?(?:enum|struct) (\w+)", line)
+        if m:
+            end = no if line.endswith((";", "}")) else lines.index("}", no)
+            yield Item(str(path), m.group(1), lines[no:end + 1])
+
+
+def functions(path, public):
+    """The public or the inner functions of a source file: their signatures and contracts, without the bodies."""
+    lines = code(path)
+    for no, line in enumerate(lines):
+        m = re.match(r'(\s*)(pub )?(?:pub\(crate\) )?(?:extern "C" )?fn (\w+)', line)
+        if m and bool(m.group(2)) == public:
+            last = re.compile(rf"{m.group(1)}(\S.*)?\{{$")
+            end = next(k for k in range(no, len(lines)) if last.match(lines[k]))
+            yield Item(str(path), m.group(3), lines[no:end + 1])
+
+
+class House:
+    """Every definition of the crates, and what each file calls by which name."""
+
+    def __init__(self):
+        self.defined, self.types, self.files = {}, {}, {}
+        self.public, self.inner, self.open = [], [], []
+        crates = Path("crates")
+        sources = sorted(crates.glob("*/src/**/*.rt"))
+        for path in sources:
+            below = ".".join(path.parts[3:])[:-len(".rt")]
+            inner = "" if below in ("lib", "main") else below + "."
+            for item in rust_types(path):
+                key = f"Rattle.{path.parts[1]}.specs.declared.{inner}{item.name}", item.name
+                self.defined[key] = item
+                self.types[path.parts[1], item.name] = key
+            self.public += functions(path, True)
+            self.inner += functions(path, False)
+        for path in sorted(crates.glob("*/specs/*.antt")) + sorted(crates.glob("*/proofs/*.antt")):
+            module = f"Rattle.{path.parts[1]}.{path.parts[2]}" + ("" if path.stem == "Lib" else "." + path.stem)
+            items = declarations(path)
+            self.defined.update({(module, item.name): item for item in items})
+            self.file(path, {item.name: (module, item.name) for item in items})
+        for path in sources:
+            self.file(path, {name: key for (crate, name), key in self.types.items() if crate == path.parts[1]})
+
+    def file(self, path, own):
+        names, modules = imports(path)
+        crate = path.parts[1]
+        self.files[str(path)] = {**own, **{n: self.home(crate, *v) for n, v in names.items()}}, modules
+
+    def home(self, crate, module, name):
+        """A name of the project as (module, name), a constructor as its type; None for any other."""
+        if "::" in module:
+            parts = module.split("::")
+            return self.types.get((crate if parts[0] == "crate" else parts[0], parts[-1]))
+        if not module.startswith("Rattle·"):
+            return None
+        module = re.sub(r"^(Rattle·\w+)·(specs|proofs)\.", r"\1.", module)
+        if module.endswith(".the-variants"):
+            module = module[:-len(".the-variants")]
+            name = module.split(".")[-1]
+        return module, name
+
+    def is_type(self, key):
+        return key in self.types.values()
+
+    def names(self, item):
+        """The definitions of the project that a text names."""
+        named, modules = self.files[item.path]
+        crate, rust = item.path.split("/")[1], item.path.endswith(".rt")
+        text = "\n".join(item.text)
+        bound = {x for binder in BINDERS for hit in binder.findall(text) for x in hit.split()}
+        for line in item.text:
+            if not rust and line.startswith(item.name + " ") and " = " in line + " ":
+                patterns = WORD.findall((line + " ").split(" = ")[0])[1:]
+                bound |= {x for x in patterns if named.get(x) in self.defined and not self.is_type(named[x])}
+        for word in WORD.findall(LABEL.sub(r"\1\2", text)):
+            head, _, rest = word.lstrip("&").partition("::" if "::" in word else ".")
+            if "::" in word and head not in named:
+                key = self.types.get((head, rest.split("::")[-1]))
+            elif head in modules and rest:
+                key = self.home(crate, modules[head], rest.split(".")[0])
+            else:
+                key = named.get(head)
+                if key in self.defined and head in bound:
+                    self.open.append(f"{item.path}: {item.name}: `{head}` is a definition and a variable")
+            if key in self.defined:
+                yield key
+            elif key:
+                self.open.append(f"{item.path}: {item.name}: `{word}` cannot be followed")
+
+    def reached(self, texts):
+        """Everything that the texts stand on, each with what named it first. The pages do not lead into themselves."""
+        found, todo = {}, [(key, item) for item in texts for key in self.names(item)]
+        while todo:
+            key, by = todo.pop()
+            if key not in found and self.defined[key].path not in (DEMANDS, UNLENT, STARRED):
+                found[key] = by
+                todo += [(k, self.defined[key]) for k in self.names(self.defined[key])]
+        return found
+
+    def figures(self, keys):
+        """Definitions, lines, files; then enums and structs, lines, files."""
+        out = []
+        for kind in (False, True):
+            items = [self.defined[k] for k in keys if self.is_type(k) == kind]
+            out += [len(items), sum(len(i.text) for i in items), len({i.path for i in items})]
+        return out
+
+
+def statements(path):
+    """What a page says: its records, the types of its theorems, and whole what these types name on the page."""
+    items = declarations(Path(path))
+    whole, said = {i.name for i in items if TYPE.match(i.text[0])}, []
+    for item in items:
+        end = next((k for k, line in enumerate(item.text) if line.split()[0] in (item.name, "unfolding")), None)
+        said.append(Item(item.path, item.name, item.text[:end or 1]))
+    while True:
+        text = {w for i, s in zip(items, said) for w in WORD.findall(" ".join((i if i.name in whole else s).text[0:]))
+                if w != i.name}
+        more = whole | {i.name for i in items if i.name in text}
+        if more == whole:
+            return [i if i.name in whole else s for i, s in zip(items, said)]
+        whole = more
+
+
+def table(rows):
+    head = "| To believe | read definitions | lines | files | enums and structs | lines | files |"
+    return [head, "|---|---|---|---|---|---|---|"] + [
+        f"| {name} | " + " | ".join(map(str, numbers)) + " |" for name, numbers in rows
+    ]
+
+
+def main(arguments):
+    house = House()
+    demands = house.reached(statements(DEMANDS))
+    unlent, starred = house.reached(statements(UNLENT)), house.reached(statements(STARRED))
+    pages = {**starred, **unlent, **demands}
+    contracts = house.reached(house.public)
+    believed = {**contracts, **pages}
+    faults = []
+    for key, by in sorted(believed.items()):
+        item = house.defined[key]
+        if "/proofs/" in item.path:
+            faults.append(f"{by.path}: {by.name}: `{item.name}` stands in {item.path}, not in specs/")
+        if item.path.endswith("/Inner.antt"):
+            faults.append(f"{by.path}: {by.name}: `{item.name}` of {item.path} has to be believed after all")
+    inner = house.reached(house.inner)
+    for key, item in sorted(house.defined.items()):
+        cited = key in believed or item.path.endswith("/Inner.antt") and key in inner
+        if "/specs/" in item.path and not cited:
+            faults.append(f"{item.path}: `{item.name}` is reached by nothing")
+    faults += sorted(set(house.open))
+    records = [item for item in statements(DEMANDS) if TYPE.match(item.text[0])]
+    rows = table([(f"`{item.name}`", house.figures(house.reached([item]))) for item in records] + [
+        ("the demands", house.figures(demands)),
+        ("the calls that are lent no memory", house.figures(unlent)),
+        ("the starred table", house.figures(starred)),
+        ("the three pages", house.figures(pages)),
+        ("the contracts of all public functions", house.figures(contracts)),
+        ("all of these", house.figures(believed)),
+    ])
+    if "--list" in arguments:
+        for key, by in sorted(believed.items()):
+            print(f"{house.defined[key].path}: {key[1]}, named by {by.path}: {by.name}")
+    published = PUBLISHED.read_text(encoding="utf-8").splitlines()
+    if "--write" in arguments:
+        first = next(no for no, line in enumerate(published) if line.startswith("|"))
+        rest = [line for line in published if not line.startswith("|")]
+        published = rest[:first] + rows + rest[first:]
+        PUBLISHED.write_text("\n".join(published) + "\n", encoding="utf-8")
+    faults += [f"{PUBLISHED} lacks the line: {row}" for row in rows if row not in published]
+    for fault in faults:
+        print(fault)
+    definitions, lines, files = house.figures(demands)[:3]
+    print(f"tests/believed: the demands stand on {definitions} definitions of {lines} lines in {files} files; "
+          f"{len(faults)} faults")
+    return 1 if faults else 0
+
+
+sys.exit(main(sys.argv[1:]))
