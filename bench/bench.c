@@ -1,8 +1,8 @@
 /* The exported functions against plain C twins, in one interleaved run: each round times both one after the other on the
  * same input, and the medians over all rounds are compared. Buffers are warm and not cleared between calls.
- *   bench              the table, and growth at five sizes
- *   bench names        the rows' names
- *   bench count NAME   one call of each side, for an instruction count by callgrind */
+ *   bench                          the table, and growth at five sizes
+ *   bench names                    the rows' names
+ *   bench count NAME SIDE TIMES    so many calls of one side, ours or other, for bench/run to count instructions */
 #define _POSIX_C_SOURCE 199309L
 #include "../include/kusikhut.h"
 #include "twins.h"
@@ -11,7 +11,7 @@
 #include <string.h>
 #include <time.h>
 
-enum { ROUNDS = 401, CONTENT = 255, FRAME = 290 };
+enum { ROUNDS = 401, CONTENT = 255, FRAME = 290, WORDS = 100 };
 
 static uint8_t noise[1024], content[CONTENT], frame[FRAME], frame_twin[FRAME], chips[1024], out[FRAME], span[128];
 static size_t chips_len, sized = 1024;
@@ -28,7 +28,7 @@ static uint8_t next_byte(void) {
     return (uint8_t)(state >> 11);
 }
 
-/* Kept apart so that callgrind can count each. */
+/* Kept apart, so that no call is optimised away or mixed with another. */
 #define NOINLINE static __attribute__((noinline))
 NOINLINE void check16_ours(void) { sink += kusikhut_check(span, 16); }
 NOINLINE void check16_other(void) { sink += twin_check(span, 16); }
@@ -38,6 +38,14 @@ NOINLINE void search_ours(void) { sink += kusikhut_search(noise, sized, 0, 8192,
 NOINLINE void search_other(void) { sink += (uint64_t)twin_search(noise, sized, 0, 8192, &a, &b); }
 NOINLINE void receive_ours(void) { sink += kusikhut_receive(chips, chips_len, 0, 8192, out, sizeof out, r); }
 NOINLINE void receive_other(void) { sink += (uint64_t)twin_receive_t(chips, chips_len, 0, 8192, out, sizeof out, &a); }
+/* Words one by one, as somebody reads who does not know yet how many there are. */
+#define EACH_WORD for (size_t i = 0; i < WORDS; i++)
+NOINLINE void words6_ours(void) { EACH_WORD sink += kusikhut_word_three_of_six(chips, chips_len, 16 + 6 * i, r); }
+NOINLINE void words6_other(void) { EACH_WORD sink += (uint64_t)twin_word_three_of_six(chips, chips_len, 16 + 6 * i, out); }
+NOINLINE void words8_ours(void) { EACH_WORD sink += kusikhut_word_nrz(noise, sized, 3 + 8 * i, r); }
+NOINLINE void words8_other(void) { EACH_WORD sink += (uint64_t)twin_word_nrz(noise, sized, 3 + 8 * i, out); }
+NOINLINE void words2_ours(void) { EACH_WORD sink += kusikhut_word_manchester(noise, sized, 2 * i, r); }
+NOINLINE void words2_other(void) { EACH_WORD sink += (uint64_t)twin_word_manchester(noise, sized, 2 * i, out); }
 NOINLINE void read_ours(void) { sink += kusikhut_read_a(frame, sizeof frame, out, sizeof out, r); }
 NOINLINE void read_other(void) { sink += (uint64_t)twin_read_a(frame, sizeof frame, out, sizeof out, &a); }
 NOINLINE void write_ours(void) { sink += kusikhut_write_a(content, sizeof content, frame_twin, sizeof frame_twin, r); }
@@ -58,6 +66,9 @@ static const struct {
     {"receive", "receive a 290-byte T frame", "C: rolling search, 64-entry decoder, table check", receive_ours,
      receive_other, 1.0},
     {"search", "search 8,192 chips, no match", "C, rolling register", search_ours, search_other, 0.5},
+    {"words6", "100 three-of-six words, one by one", "C, table of 64", words6_ours, words6_other, 1.2},
+    {"words8", "100 NRZ words, one by one", "C", words8_ours, words8_other, 1.2},
+    {"words2", "100 Manchester words, one by one", "C", words2_ours, words2_other, 1.2},
     {"read", "read a 290-byte A frame", "C, table check", read_ours, read_other, 1.2},
     {"write", "write a 290-byte A frame", "C, table check", write_ours, write_other, 1.2},
     {"change", "change a byte of it", "our own read", change_ours, change_other, 1.2},
@@ -108,6 +119,13 @@ static void prepare(void) {
     chips_len = r[0];
 }
 
+static int same_word(uint8_t (*first)(const uint8_t *, size_t, size_t, uint64_t *),
+                     int (*second)(const uint8_t *, size_t, size_t, uint8_t *), size_t at) {
+    uint8_t value = 0;
+    int answer = first(noise, sizeof noise, at, r);
+    return answer == second(noise, sizeof noise, at, &value) && (answer != 0 || r[0] == value);
+}
+
 /* Both sides must do the same work, or their times say nothing. */
 static int same_answers(void) {
     uint8_t ours[FRAME] = {0}, twins[FRAME] = {0};
@@ -116,6 +134,11 @@ static int same_answers(void) {
     if (kusikhut_receive(chips, chips_len, 0, 8192, ours, FRAME, r) != 0) return 0;
     if (twin_receive_t(chips, chips_len, 0, 8192, twins, FRAME, &n) != 0 || n != r[4]) return 0;
     if (memcmp(ours, twins, FRAME) != 0) return 0;
+    for (size_t i = 0; i <= 8 * sizeof noise + 1; i++)
+        if (!same_word(kusikhut_word_three_of_six, twin_word_three_of_six, i) ||
+            !same_word(kusikhut_word_nrz, twin_word_nrz, i) ||
+            !same_word(kusikhut_word_manchester, twin_word_manchester, i))
+            return 0;
     if (kusikhut_search(noise, 1024, 0, 8192, r) != 7 || twin_search(noise, 1024, 0, 8192, &p, &t) != 7 || r[1] != t) return 0;
     if (twin_write_a(content, CONTENT, twins, FRAME) != 0 || memcmp(frame, twins, FRAME) != 0) return 0;
     return 1;
@@ -146,10 +169,10 @@ int main(int argc, char **argv) {
     }
     for (size_t i = 0; argc == 2 && i < ROWS; i++) puts(rows[i].name);
     if (argc == 2) return 0;
-    for (size_t i = 0; argc == 3 && i < ROWS; i++)
+    for (size_t i = 0; argc == 5 && i < ROWS; i++)
         if (strcmp(argv[2], rows[i].name) == 0) {
-            rows[i].first();
-            rows[i].second();
+            Call call = strcmp(argv[3], "ours") == 0 ? rows[i].first : rows[i].second;
+            for (int k = atoi(argv[4]); k > 0; k--) call();
             return 0;
         }
     printf("| ours | against | ours, ns | other, ns | ratio | to reach | |\n|---|---|---|---|---|---|---|\n");

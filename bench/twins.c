@@ -49,16 +49,45 @@ int twin_search(const uint8_t *chips, size_t len, size_t start, size_t allowance
     return i >= count ? 7 : 14;
 }
 
-static unsigned six(const uint8_t *chips, size_t len, size_t at) {
+/* The w chips at a place, at most nine. */
+static inline unsigned cut(const uint8_t *chips, size_t len, size_t at, unsigned w) {
     size_t k = at >> 3;
     unsigned two = (unsigned)chips[k] << 8 | (k + 1 < len ? chips[k + 1] : 0u);
-    return two >> (10 - (at & 7)) & 63;
+    return two >> (16 - w - (at & 7)) & ((1u << w) - 1);
+}
+
+/* One word alone, of 8 (NRZ), 6 (three-of-six) or 2 chips (Manchester); the length is judged as the library judges it. */
+static inline int word(unsigned w, const uint8_t *chips, size_t len, size_t at, uint8_t *value) {
+    if (len > 1024 || at > 8 * len) return 10;
+    if (8 * len - at < w) return 1;
+    unsigned y = cut(chips, len, at, w);
+    if (w == 8) {
+        *value = (uint8_t)y;
+        return 0;
+    }
+    if (w == 6) {
+        *value = half_of[y];
+        return half_of[y] == 255 ? 6 : 0;
+    }
+    *value = y == 1;
+    return y == 1 || y == 2 ? 0 : 6;
+}
+
+int twin_word_nrz(const uint8_t *chips, size_t len, size_t at, uint8_t *value) { return word(8, chips, len, at, value); }
+
+int twin_word_three_of_six(const uint8_t *chips, size_t len, size_t at, uint8_t *value) {
+    return word(6, chips, len, at, value);
+}
+
+int twin_word_manchester(const uint8_t *chips, size_t len, size_t at, uint8_t *value) {
+    return word(2, chips, len, at, value);
 }
 
 int twin_decode_three_of_six(const uint8_t *chips, size_t len, size_t start, size_t n, uint8_t *out) {
     if (start + 12 * n > 8 * len) return 1;
     for (size_t i = 0; i < n; i++) {
-        uint8_t high = half_of[six(chips, len, start + 12 * i)], low = half_of[six(chips, len, start + 12 * i + 6)];
+        uint8_t high = half_of[cut(chips, len, start + 12 * i, 6)];
+        uint8_t low = half_of[cut(chips, len, start + 12 * i + 6, 6)];
         if ((high | low) & 0x80) return 6;
         out[i] = (uint8_t)(high << 4 | low);
     }

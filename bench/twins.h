@@ -9,6 +9,9 @@ uint16_t twin_check(const uint8_t *s, size_t n);
 uint16_t twin_check_after(uint8_t *span, size_t n, size_t place, uint8_t byte);
 int twin_search(const uint8_t *chips, size_t len, size_t start, size_t allowance, size_t *place, size_t *tried);
 int twin_decode_three_of_six(const uint8_t *chips, size_t len, size_t start, size_t n, uint8_t *out);
+int twin_word_nrz(const uint8_t *chips, size_t len, size_t at, uint8_t *value);
+int twin_word_three_of_six(const uint8_t *chips, size_t len, size_t at, uint8_t *value);
+int twin_word_manchester(const uint8_t *chips, size_t len, size_t at, uint8_t *value);
 int twin_read_a(const uint8_t *s, size_t len, uint8_t *out, size_t out_len, size_t *n);
 int twin_write_a(const uint8_t *content, size_t n, uint8_t *out, size_t out_len);
 int twin_receive_t(const uint8_t *chips, size_t len, size_t start, size_t allowance, uint8_t *out, size_t out_len,

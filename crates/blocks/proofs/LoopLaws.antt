@@ -9,7 +9,6 @@ use mathlib.Core.Bool.{true, false}
 use mathlib.Core.List.{List, _++_}
 use mathlib.Core.Path.{_≡_, refl, sym, _∙_}
 use Prim.Native.Nat.{ℕ, _+_, _-_, _≤_, _<_, min}
-use native.Mathlib.Nat.{sub-zero}
 use native.Mathlib.Omega.{arith}
 use lib.ListN.{length, take, drop, length-drop}
 use lib.Seq.{paste, length-paste}
@@ -55,62 +54,67 @@ module _ {s : List ℕ} {first later t at most left block : ℕ} (w : Checking s
           same = rw ok at (sym (firstWrong-turn e (w .some) l h block at s) ∙ w .same);
         }
 
--- `done` bytes are copied, those behind place `at` of s are left
-pub record Copying (s : List ℕ) (first later n : ℕ) (d out : List ℕ) (at most done : ℕ) : Type 0 where
+-- `done` bytes are copied, the `left` bytes behind place `at` of s are not yet
+pub record Copying (s : List ℕ) (first later n : ℕ) (d out : List ℕ) (at most done left : ℕ) : Type 0 where
   pub some : 0 < most
-  pub below : done ≤ n
+  pub all : done + left ≡ n
   pub long : length out ≡ length d
-  pub fits : at + sizeOf (spans most later (n - done)) ≤ length s
+  pub fits : at + sizeOf (spans most later left) ≤ length s
   pub same :
-      filled out done (payload (spans most later (n - done)) (drop at s)) (n - done)
+      filled out done (payload (spans most later left) (drop at s)) left
       ≡ filled d 0 (payload (spans (first - 1) later n) (drop 1 s)) n
 
 pub copying-start :
     (s : List ℕ) (first later n : ℕ) (d : List ℕ) → 1 < first → 0 < later
-    → sizeOf (spans first later (n + 1)) ≤ length s → Copying s first later n d d 1 (first - 1) 0
+    → sizeOf (spans first later (n + 1)) ≤ length s → Copying s first later n d d 1 (first - 1) 0 n
 copying-start s first later n d m l fits =
-    let room : 1 + sizeOf (spans (first - 1) later n) ≤ length s = omega (arith, sizeOf-behind m l n) in
-    record { some = omega arith; below = omega arith; long = refl; fits = rw (sub-zero n) room; same = rw (sub-zero n) }
+    record {
+      some = omega arith;
+      all = omega arith;
+      long = refl;
+      fits = omega (arith, sizeOf-behind m l n);
+      same = refl;
+    }
 
-module _ {s d out : List ℕ} {first later n at most done : ℕ} (w : Copying s first later n d out at most done) where
+module _ {s d out : List ℕ} {first later n at most done left : ℕ}
+    (w : Copying s first later n d out at most done left) where
   pub copying-end :
-      1 < first → 0 < later → sizeOf (spans first later (n + 1)) ≤ length s → n ≤ done
+      1 < first → 0 < later → sizeOf (spans first later (n + 1)) ≤ length s → left ≡ 0
       → out ≡ drop 1 (payload (spans first later (n + 1)) s) ++ drop n d
   unfolding payload cut
-  copying-end m l fits all =
-      let none : n - done ≡ 0 = omega arith in
+  copying-end m l fits none =
       sym (filled-end out done) ∙ rw none at (w .same)
       ∙ filled-start d _ n ∙ rw (payload-behind m l n s (omega (arith, sizeOf-behind m l n)))
 
-  module _ {k : ℕ} (l : 0 < later) (h : done < n) (e : k ≡ min most (n - done)) where
-    pub copying-fits : at + (k + 2 + sizeOf (spans later later (n - done - k))) ≤ length s
-    copying-fits = omega (arith, w .fits, sizeOf-turn e (w .some) l (omega arith))
+  module _ {k : ℕ} (l : 0 < later) (h : 0 < left) (e : k ≡ min most left) where
+    pub copying-fits : at + (k + 2 + sizeOf (spans later later (left - k))) ≤ length s
+    copying-fits = omega (arith, w .fits, sizeOf-turn e (w .some) l h)
 
     copying-long : n ≤ length d → length (paste out done (drop at s) k) ≡ length d
     copying-long room =
-        length-paste out done (drop at s) k (omega (arith, w .long)) (simp length-drop (omega (arith, copying-fits)))
+        length-paste out done (drop at s) k (omega (arith, w .long, w .all))
+        (simp length-drop (omega (arith, copying-fits)))
         ∙ w .long
 
     copying-same :
         n ≤ length d
         → filled (paste out done (drop at s) k) (done + k)
-        (payload (spans later later (n - done - k)) (drop (at + (k + 2)) s)) (n - done - k)
+        (payload (spans later later (left - k)) (drop (at + (k + 2)) s)) (left - k)
         ≡ filled d 0 (payload (spans (first - 1) later n) (drop 1 s)) n
     copying-same room =
-        copied-turn e (w .some) l (omega arith) at done s out (omega (arith, copying-fits)) (omega (arith, w .long))
+        copied-turn e (w .some) l h at done s out (omega (arith, copying-fits)) (omega (arith, w .long, w .all))
         ∙ w .same
 
     pub copying-step :
         {next : List ℕ} → n ≤ length d → next ≡ paste out done (drop at s) k
-        → Copying s first later n d next (at + (k + 2)) later (done + k)
+        → Copying s first later n d next (at + (k + 2)) later (done + k) (left - k)
     copying-step room is =
-        let rest : n - (done + k) ≡ n - done - k = omega arith in
         record {
           some = l;
-          below = omega arith;
+          all = omega (arith, w .all);
           long = rw is (copying-long room);
-          fits = rw rest (omega (arith, copying-fits));
-          same = rw (is, rest) (copying-same room);
+          fits = omega (arith, copying-fits);
+          same = rw is (copying-same room);
         }
 
 -- `done` bytes of c are written, up to place `at`; before that `before` were, up to place `from`

@@ -3,20 +3,21 @@
 --     sealed-stores                      the check stored over whatever two bytes stood behind its span
 --     blockOk-high, blockOk-low          what a right check says of its two bytes
 --     sealed-take                        a right check stands as sealing would write it
---     blockOk-wrong, blockOk-second      the two tests of a check, as the code makes them
-use mathlib.Core.Bool.{true, false}
+--     blockOk-check                      the test of a check, as the code makes it: on both bytes at once
+use mathlib.Core.Bool.{Bool, true, false, _&&_}
 use mathlib.Core.List.{List, [], _∷_, _++_, append-assoc}
 use mathlib.Core.Path.{_≡_, refl, ap, sym, _∙_}
-use Prim.Native.Nat.{ℕ, suc, _+_, _≤_, _/_, _%_}
+use Prim.Native.Nat.{ℕ, suc, _+_, _*_, _≤_, _<_, _/_, _%_}
 use native.Mathlib.Numerals.{add-one}
 use native.Mathlib.Omega.{arith}
-use borrow.Author.Tests.{eq-eqb, ne-eqb, eqb-true}
+use borrow.Author.Tests.{eq-eqb, ne-eqb, eqb-true, eqb-false}
 use lib.Dec.{eqb}
 use lib.ListN.{length, take, drop, getD, set, length-append}
 use lib.Seq.{take-at, drop-at, getD-at, getD-drop, take-suc, set-append-seam}
 use Rattle.ground.proofs.BehindLaws.{set-append-add}
 use Rattle.ground.proofs.CaseLaws.{and-left, and-right}
 use Rattle.crc.specs.Check.{checkOf}
+use Rattle.blocks.specs.Places.{checkAt}
 use Rattle.blocks.specs.Spans.{sealed, blockOk}
 
 pub length-sealed : (q : List ℕ) → length (sealed q) ≡ length q + 2
@@ -81,16 +82,20 @@ module _ (k : ℕ) (s : List ℕ) (ok : blockOk k s ≡ true) where
       let two = take-suc s (suc k) 0 (omega arith) in
       rw (← blockOk-high, ← blockOk-low, add-one k, e, two, one, append-assoc)
 
-module _ (s : List ℕ) (at k : ℕ) where
-  pub blockOk-wrong : (getD s (at + k) 0 ≡ checkOf (take k (drop at s)) / 256 → ⊥) → blockOk k (drop at s) ≡ false
-  unfolding blockOk
-  blockOk-wrong h = rw (getD-drop at s k 0, ne-eqb (getD s (at + k) 0) (checkOf (take k (drop at s)) / 256) h)
+-- two bytes are equal where the number that they make is
+two-eqb : (high low c : ℕ) → low < 256 → (a b : Bool) → eqb high (c / 256) ≡ a → eqb low (c % 256) ≡ b
+    → (a && b) ≡ eqb (high * 256 + low) c
+two-eqb high low c byte true true h l =
+    sym (eq-eqb (high * 256 + low) c (omega (arith, eqb-true high (c / 256) h, eqb-true low (c % 256) l)))
+two-eqb high low c byte false b h l =
+    sym (ne-eqb (high * 256 + low) c (λ e. eqb-false high (c / 256) h (omega arith)))
+two-eqb high low c byte true false h l =
+    sym (ne-eqb (high * 256 + low) c (λ e. eqb-false low (c % 256) l (omega arith)))
 
-  pub blockOk-second :
-      getD s (at + k) 0 ≡ checkOf (take k (drop at s)) / 256
-      → blockOk k (drop at s) ≡ eqb (getD s (at + k + 1) 0) (checkOf (take k (drop at s)) % 256)
-  unfolding blockOk
-  blockOk-second h =
-      let e : at + (k + 1) ≡ at + k + 1 = omega arith in
-      let same = eq-eqb (getD s (at + k) 0) (checkOf (take k (drop at s)) / 256) h in
-      rw (getD-drop at s k 0, same, getD-drop at s (k + 1) 0, e)
+pub blockOk-check : (s : List ℕ) (at k : ℕ) → getD s (at + k + 1) 0 < 256
+    → blockOk k (drop at s) ≡ eqb (checkAt s (at + k)) (checkOf (take k (drop at s)))
+unfolding blockOk
+blockOk-check s at k byte =
+    let next : at + (k + 1) ≡ at + k + 1 = omega arith in
+    rw (getD-drop at s k 0, getD-drop at s (k + 1) 0, next)
+    (two-eqb (getD s (at + k) 0) (getD s (at + k + 1) 0) (checkOf (take k (drop at s))) byte _ _ refl refl)

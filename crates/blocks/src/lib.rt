@@ -7,7 +7,7 @@ ghost use mathlib.Core.List.{_∷_, _++_};
 ghost use Prim.Native.Nat.{_+_, _≤_, _<_, _^_, min};
 ghost use lib.ListN.{length, take, drop};
 ghost use lib.Seq.{paste};
-ghost use Rattle.blocks.specs.Places.{placeIn, checkIn, mended};
+ghost use Rattle.blocks.specs.Places.{placeIn, checkIn, checkAt, mended};
 ghost use Rattle.blocks.specs.Spans.{sealed, framed, payload, blockOk, firstWrong, sizeOf, spans};
 use crc::Updated;
 
@@ -23,17 +23,22 @@ fn smaller(a: usize, b: usize) -> usize
     if a < b { a } else { b }
 }
 
-// Is the check behind the k bytes from place `at` right? High byte first.
+// The check that stands at place `at`: high byte first (12.2).
+fn check_at(s: &[u8], at: usize) -> u16
+    requires { ⌜ at + 2 ≤ length (now s) ⌝ }
+    ensures { λ r. ⌜ r ≡ checkAt (now (s .entry)) at ⌝ }
+{
+    s[at] as u16 * 256 + s[at + 1] as u16
+}
+
+// Is the check behind the k bytes from place `at` right?
 fn block_ok(s: &[u8], at: usize, k: usize) -> bool
     requires { ⌜ at + k + 2 ≤ length (now s) ⌝ }
     ensures { λ r. ⌜ r ≡ blockOk k (drop at (now (s .entry))) ⌝ }
 {
     let end = at + k;
     let check = crc::check(&s[at..end]);
-    if s[end] != (check / 256) as u8 {
-        return false;
-    }
-    s[end + 1] == (check % 256) as u8
+    check_at(s, end) == check
 }
 
 // The first wrong check among those of the t bytes that s begins with.
@@ -82,12 +87,14 @@ pub fn take_out(s: &[u8], first: usize, later: usize, n: usize, out: &mut [u8])
     let mut at: usize = 1;
     let mut most = first - 1;
     let mut done: usize = 0;
-    while done < n {
-        let k = smaller(most, n - done);
+    let mut left = n;
+    while 0 < left {
+        let k = smaller(most, left);
         copy_part(s, at, k, out, done);
         at += k + 2;
         most = later;
         done += k;
+        left -= k;
     }
 }
 
@@ -183,7 +190,7 @@ fn mend(s: &mut [u8], byte: usize, check: usize, distance: usize, v: u8)
     requires { ⌜ (byte + 1 + distance ≡ check) × ((check + 2 ≤ length (now s)) × (distance ≤ 125)) ⌝ }
     ensures { λ r. ⌜ now (s .exit) ≡ mended (now (s .entry)) byte check v ⌝ }
 {
-    let old_check = s[check] as u16 * 256 + s[check + 1] as u16;
+    let old_check = check_at(s, check);
     let old = s[byte];
     let Updated::Accepted(new_check) = crc::update(old_check, old, v, distance) else {
         return;

@@ -9,11 +9,15 @@
 --     wordAt-high           the first 32 of 64 chips
 --     wordAt-window         the w chips that stand r places into m
 --     wordAt-cut            the w chips at a place: the 64 from its byte on, shifted up to the place and down to w
-use mathlib.Core.Path.{_≡_, ap, sym, _∙_}
+--     wordAt-narrow         the same for at most nine chips, out of the bytes of the first and of the last of them
+use mathlib.Core.Bool.{Bool, true, false}
+use mathlib.Core.Path.{_≡_, refl, ap, sym, _∙_}
 use mathlib.Core.List.{List}
 use Prim.Native.Nat.{ℕ, _+_, _*_, _-_, _/_, _%_, _^_, _≤_, _<_}
 use native.Mathlib.Nat.{zero-div, mod-eq-of-lt, lt-of-lt-of-le}
 use native.Mathlib.Omega.{arith}
+use borrow.Author.Tests.{ltb-true, ltb-false}
+use lib.Dec.{ltb}
 use lib.ListN.{length, getD, List·getD-eq-default}
 use lib.Pow.{field, pow-mono, shl-shr, shr-shr}
 use Rattle.chips.specs.Chips.{wordAt, chipAt}
@@ -78,24 +82,60 @@ module _ (s : List ℕ) (q : ℕ) where
       ap (λ (n : ℕ). wordAt s (8 * q) n / 2 ^ (m - r - w) % 2 ^ w) chips
       ∙ gather-within (chipAt s) (chipAt-lt s) (8 * q) r w (m - r - w)
 
-module _ (x r w : ℕ) (h : r + w ≤ 64) where
-  shl-shr-down : x * 2 ^ r / 2 ^ (64 - w) ≡ x / 2 ^ (64 - r - w)
+module _ (m x r w : ℕ) (h : r + w ≤ m) where
+  shl-shr-down : x * 2 ^ r / 2 ^ (m - w) ≡ x / 2 ^ (m - r - w)
   shl-shr-down =
-      let down : 64 - w ≡ r + (64 - r - w) = omega arith in
-      rw (down, ← shr-shr (x * 2 ^ r) r (64 - r - w), shl-shr x r)
+      let down : m - w ≡ r + (m - r - w) = omega arith in
+      rw (down, ← shr-shr (x * 2 ^ r) r (m - r - w), shl-shr x r)
 
-  -- shifted up by r of 64 and down again to w: what is left are the w from place r on
-  shl-shr-cut : x * 2 ^ r % 2 ^ 64 / 2 ^ (64 - w) ≡ x / 2 ^ (64 - r - w) % 2 ^ w
+  -- shifted up by r of m and down again to w: what is left are the w from place r on
+  shl-shr-cut : x * 2 ^ r % 2 ^ m / 2 ^ (m - w) ≡ x / 2 ^ (m - r - w) % 2 ^ w
   shl-shr-cut =
-      let whole : 64 ≡ w + (64 - w) = omega arith in
-      ap (λ (n : ℕ). x * 2 ^ r % 2 ^ n / 2 ^ (64 - w)) whole
-      ∙ field (x * 2 ^ r) w (64 - w)
+      let whole : m ≡ w + (m - w) = omega arith in
+      ap (λ (n : ℕ). x * 2 ^ r % 2 ^ n / 2 ^ (m - w)) whole
+      ∙ field (x * 2 ^ r) w (m - w)
       ∙ ap (λ (y : ℕ). y % 2 ^ w) shl-shr-down
 
 pub wordAt-cut : (s : List ℕ) (at w : ℕ) → w ≤ 57
     → wordAt s (8 * (at / 8)) 64 * 2 ^ (at % 8) % 2 ^ 64 / 2 ^ (64 - w) ≡ wordAt s at w
 wordAt-cut s at w h =
     let place : 8 * (at / 8) + at % 8 ≡ at = omega arith in
-    shl-shr-cut (wordAt s (8 * (at / 8)) 64) (at % 8) w (omega arith)
+    shl-shr-cut 64 (wordAt s (8 * (at / 8)) 64) (at % 8) w (omega arith)
     ∙ wordAt-window s (at / 8) 64 (at % 8) w (omega arith)
     ∙ ap (λ (n : ℕ). wordAt s n w) place
+
+-- a is the byte of chip `at`, b that of the last of the w chips from there on
+module _ (s : List ℕ) (at w : ℕ) (some : 1 ≤ w) (few : w ≤ 9) {a b : ℕ}
+    (first : (a ≡ getD s (at / 8) 0) × (a < 256)) (last : (b ≡ getD s ((at + w - 1) / 8) 0) × (b < 256)) where
+  -- they are neighbours
+  two-across : 8 < at % 8 + w
+      → (a * 256 + b) / 2 ^ (16 - at % 8 - w) % 2 ^ w ≡ wordAt s (8 * (at / 8) + at % 8) w
+  two-across far =
+      let next : (at + w - 1) / 8 ≡ at / 8 + 1 = omega arith in
+      let b-is : b ≡ getD s (at / 8 + 1) 0 = last .0 ∙ ap (λ (q : ℕ). getD s q 0) next in
+      let one = wordAt-byte s (at / 8) (omega arith) in
+      let both : a * 256 + b ≡ wordAt s (8 * (at / 8)) 16 = omega (arith, wordAt-grow s (at / 8) 1 (omega arith)) in
+      rw both (wordAt-window s (at / 8) 16 (at % 8) w (omega arith))
+
+  -- they are one
+  two-within : at % 8 + w ≤ 8
+      → (a * 256 + b) / 2 ^ (16 - at % 8 - w) % 2 ^ w ≡ wordAt s (8 * (at / 8) + at % 8) w
+  two-within near =
+      let down : 16 - at % 8 - w ≡ 8 + (8 - at % 8 - w) = omega arith in
+      let one = wordAt-byte s (at / 8) (omega arith) in
+      let high : (a * 256 + b) / 2 ^ 8 ≡ wordAt s (8 * (at / 8)) 8 = omega arith in
+      rw (down, ← shr-shr (a * 256 + b) 8 (8 - at % 8 - w), high) (wordAt-window s (at / 8) 8 (at % 8) w near)
+
+  two-cut : (far : Bool) → ltb 8 (at % 8 + w) ≡ far
+      → (a * 256 + b) / 2 ^ (16 - at % 8 - w) % 2 ^ w ≡ wordAt s (8 * (at / 8) + at % 8) w
+  two-cut true e = two-across (ltb-true 8 (at % 8 + w) e)
+  two-cut false e = two-within (ltb-false 8 (at % 8 + w) e)
+
+  pub wordAt-narrow : (a * 256 + b) * 2 ^ (at % 8) % 2 ^ 64 % 65536 / 2 ^ (16 - w) ≡ wordAt s at w
+  wordAt-narrow =
+      let place : 8 * (at / 8) + at % 8 ≡ at = omega arith in
+      let low : (a * 256 + b) * 2 ^ (at % 8) % 2 ^ 64 % 65536 ≡ (a * 256 + b) * 2 ^ (at % 8) % 2 ^ 16 = omega arith in
+      ap (λ (n : ℕ). n / 2 ^ (16 - w)) low
+      ∙ shl-shr-cut 16 (a * 256 + b) (at % 8) w (omega arith)
+      ∙ two-cut (ltb 8 (at % 8 + w)) refl
+      ∙ ap (λ (n : ℕ). wordAt s n w) place

@@ -2,7 +2,7 @@
 ghost use mathlib.Core.Path.{_≡_};
 ghost use Prim.Native.Nat.{_+_, _*_, _≤_, _<_};
 ghost use lib.ListN.{length};
-ghost use Rattle.chips.specs.Chips.{wordAt, inRange};
+ghost use Rattle.chips.specs.Chips.{wordAt, chipCount, roomLimit, inRange};
 
 // A received chip buffer has at most so many bytes (house).
 pub const LIMIT: usize = 1024;
@@ -80,4 +80,14 @@ pub fn word(s: &[u8], at: usize, w: usize) -> usize
     ensures { λ r. ⌜ r ≡ wordAt (now (s .entry)) at w ⌝ }
 {
     (window(s, at / 8) << ((at % 8) as u32)) >> ((64 - w) as u32)
+}
+
+// The same for at most nine chips that are all there. They lie in the byte of the first of them and in that of the
+// last, so nothing has to be tested; where the two are one byte, its second copy is cut off.
+pub fn narrow(s: &[u8], at: usize, w: usize) -> usize
+    requires { ⌜ ((1 ≤ w) × (w ≤ 9)) × ((length (now s) ≤ roomLimit) × (at + w ≤ chipCount (now s))) ⌝ }
+    ensures { λ r. ⌜ r ≡ wordAt (now (s .entry)) at w ⌝ }
+{
+    let two = wide(s[at / 8]) * 256 + wide(s[(at + w - 1) / 8]);
+    ((two << ((at % 8) as u32)) % 65536) >> ((16 - w) as u32)
 }

@@ -1,24 +1,30 @@
 -- Three-of-six read a byte at a time: its two words are looked up in a table of 64 (specs/Inner).
---     Halves-listed            the numbers of the 64 words, one after the other, are such a table; that the source's
---                              table is this one is a computation (`line::codes::halves`)
+--     rowOf-listed             what is cut out of a row for a word is what is listed for it, by computing all 64; that
+--                              the source's rows are these is a computation too (`line::codes::row`)
+--     Halves-none, Halves-step    a table is filled from the front, entry after entry
 --     halfOf-is, halfOf-none   what a number of the table says of its word
 --     halfAt-first, halfAt-second    the two words of the byte, cut out of the 32 chips from its first byte on
 --     byteRead-first, byteRead-second    the byte's answer where the first or the second word is no code word
 --     byteRead-both            and where both are
+use mathlib.Core.Bool.{Bool, true, false}
 use mathlib.Core.Path.{_≡_, refl, ap, sym, _∙_}
 use mathlib.Core.List.{List}
 use Prim.Native.Nat.{ℕ, _+_, _*_, _-_, _/_, _%_, _^_, _<_, _≤_}
+use native.Mathlib.Nat.{not-suc-le-zero}
 use native.Mathlib.Omega.{arith}
-use lib.ListN.{getD}
+use borrow.Author.Tests.{eqb-true, eqb-false}
+use lib.Dec.{eqb}
+use lib.ListN.{length, getD, set, length-set}
+use lib.Seq.{getD-set-same, getD-set-other}
 use lib.Pow.{shr-shr}
 use Rattle.chips.proofs.WindowLaws.{wordAt-window}
 use Rattle.chips.specs.Chips.{wordAt}
-use Rattle.ground.proofs.TableLaws.{values, getD-values}
+use Rattle.ground.proofs.TableLaws.{getD-values}
 use Rattle.line.proofs.CodeLaws.{lawful, wordValue-is}
 use Rattle.line.proofs.JoiningLaws.{Joining, joining-start, joining-step, joining-bad, joining-end}
-use Rattle.line.specs.Codes.{LineCode, codeOf, wordValue}
+use Rattle.line.specs.Codes.{LineCode, codeOf, wordValue, numberFor}
 use Rattle.line.specs.Decoding.{valueAt}
-use Rattle.line.specs.Inner.{halfOf, Halves, byteRead}
+use Rattle.line.specs.Inner.{halfOf, listedFor, rowOf, Halves, byteRead}
 use Rattle.line.specs.declared.decoding.Byte.the-variants as byte
 use Rattle.line.specs.declared.codes.Code.the-variants.{ThreeOfSix}
 use Rattle.line.specs.declared.codes.Value.{Value}
@@ -27,11 +33,30 @@ use Rattle.line.specs.declared.codes.Value.the-variants.{Is, NoWord}
 abbrev κ : LineCode
 κ = codeOf ThreeOfSix
 
-abbrev pub listedHalves : List ℕ
-listedHalves = values (λ y. halfOf (wordValue κ y)) 64 0
+-- what the source cuts out of a row for the word y
+abbrev cutOut : ℕ → ℕ
+cutOut y = rowOf (y / 8) / 2 ^ (56 - 8 * (y % 8)) % 256
 
-pub Halves-listed : Halves listedHalves
-Halves-listed = record { size = refl; entry = λ y h. getD-values (λ y. halfOf (wordValue κ y)) 64 y 0 h }
+pub rowOf-listed : (y : ℕ) → y < 64 → cutOut y ≡ listedFor y
+unfolding numberFor
+rowOf-listed y h = sym (getD-values cutOut 64 y 0 h) ∙ getD-values listedFor 64 y 0 h
+
+pub Halves-none : {t : List ℕ} → length t ≡ 64 → Halves 0 t
+Halves-none size = record { size = size; entry = λ y h. absurd (not-suc-le-zero h) }
+
+-- an entry of the table with one more: a former one, or the new one
+Halves-set : {n : ℕ} {t : List ℕ} {x : ℕ} → Halves n t → n < 64 → x ≡ listedFor n → (y : ℕ) → y ≤ n
+    → (new : Bool) → eqb y n ≡ new → getD (set t n x) y 0 ≡ listedFor y
+Halves-set {n} {t} {x} w h is y l true e = rw (eqb-true y n e, getD-set-same t n x 0 (omega (arith, w .size))) is
+Halves-set {n} {t} {x} w h is y l false e =
+    getD-set-other t n y x 0 (eqb-false y n e) ∙ w .entry y (omega (arith, eqb-false y n e))
+
+pub Halves-step : {n : ℕ} {t : List ℕ} {x : ℕ} → Halves n t → n < 64 → x ≡ listedFor n → Halves (n + 1) (set t n x)
+Halves-step {n} {t} {x} w h is =
+    record {
+      size = length-set t n x ∙ w .size;
+      entry = λ y l. Halves-set w h is y (omega arith) (eqb y n) refl;
+    }
 
 pub halfOf-is : (y : ℕ) {x : ℕ} → x ≡ halfOf (wordValue κ y) → x < 16 → wordValue κ y ≡ Is x
 halfOf-is y {x} e h = by (wordValue κ y) e where
@@ -71,7 +96,7 @@ highIn t x at = getD t (x / 2 ^ (20 - at % 8) / 64 % 64) 0
 abbrev lowIn : List ℕ → ℕ → ℕ → ℕ
 lowIn t x at = getD t (x / 2 ^ (20 - at % 8) % 64) 0
 
-module _ {t : List ℕ} (table : Halves t) (s : List ℕ) (at : ℕ) {x : ℕ} (half : x ≡ wordAt s (8 * (at / 8)) 32) where
+module _ {t : List ℕ} (table : Halves 64 t) (s : List ℕ) (at : ℕ) {x : ℕ} (half : x ≡ wordAt s (8 * (at / 8)) 32) where
   highIn-is : highIn t x at ≡ halfOf (valueAt κ s at 0)
   highIn-is =
       table .entry (x / 2 ^ (20 - at % 8) / 64 % 64) (omega arith)

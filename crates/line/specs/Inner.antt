@@ -1,14 +1,16 @@
 -- What the crate's inner functions promise each other. Nobody has to believe it: no promise of a public function and no
 -- demand cites it.
 --     unitOf κ           how many chips a byte takes
---     halfOf v           what the table of 64 lists for a three-of-six word that stands for v: 16 for no code word
---     Halves t           t lists this for each of the 64 words
+--     halfOf v           what is listed for a three-of-six word that stands for v: 16 for no code word
+--     listedFor y        what is listed for the word y
+--     rowOf i            this for the eight words from 8 * i on, as one number: two hexadecimal digits each
+--     Halves n t         t is a table of 64 and lists this for each of the first n words
 --     byteRead κ s at    the byte whose words begin at chip `at`, or the place of the first that is no code word
 --     sentChip κ s k     chip k of what encoding writes: behind the code words of s every chip is 0
 use mathlib.Core.Bool.{cond}
 use mathlib.Core.Path.{_≡_}
 use mathlib.Core.List.{List}
-use Prim.Native.Nat.{ℕ, _*_, _/_, _<_}
+use Prim.Native.Nat.{ℕ, zero, suc, _+_, _*_, _/_, _<_}
 use lib.Dec.{ltb}
 use lib.ListN.{length, getD}
 use Rattle.chips.specs.Chips.{gather}
@@ -29,9 +31,19 @@ abbrev pub halfOf : Value → ℕ
 halfOf (Is x) = x
 halfOf NoWord = 16
 
-pub record Halves (t : List ℕ) : Type 0 where
+abbrev pub listedFor : ℕ → ℕ
+listedFor y = halfOf (wordValue (codeOf ThreeOfSix) y)
+
+abbrev listedUp : ℕ → ℕ → ℕ
+listedUp y zero = 0
+listedUp y (suc n) = listedUp y n * 256 + listedFor (y + n)
+
+abbrev pub rowOf : ℕ → ℕ
+rowOf i = listedUp (8 * i) 8
+
+pub record Halves (n : ℕ) (t : List ℕ) : Type 0 where
   pub size : length t ≡ 64
-  pub entry : (y : ℕ) → y < 64 → getD t y 0 ≡ halfOf (wordValue (codeOf ThreeOfSix) y)
+  pub entry : (y : ℕ) → y < n → getD t y 0 ≡ listedFor y
 
 unfoldable pub byteRead : LineCode → List ℕ → ℕ → Byte
 byteRead κ s at =

@@ -1,8 +1,8 @@
 // What tells the three codes apart: the bits and the chips of a word, the code word of each number, and back.
 ghost use mathlib.Core.Path.{_≡_};
-ghost use Prim.Native.Nat.{_/_, _^_, _<_};
+ghost use Prim.Native.Nat.{_+_, _*_, _/_, _^_, _<_};
 ghost use Rattle.line.specs.Codes.{codeOf, wordValue};
-ghost use Rattle.line.specs.Inner.{unitOf, Halves};
+ghost use Rattle.line.specs.Inner.{unitOf, listedFor, rowOf, Halves};
 ghost use Rattle.line.specs.declared.codes.Code.the-variants.{ThreeOfSix, Manchester};
 
 // Which code words stand for the bits.
@@ -36,74 +36,6 @@ const CODE_WORDS: [u8; 16] = [
     49,
     50,
     41,
-];
-
-// Table 10 from its other side: the number of each word of six chips, 16 where it is no code word.
-const HALVES: [u8; 64] = [
-    16,
-    16,
-    16,
-    16,
-    16,
-    16,
-    16,
-    16,
-    16,
-    16,
-    16,
-    3,
-    16,
-    1,
-    2,
-    16,
-    16,
-    16,
-    16,
-    7,
-    16,
-    16,
-    0,
-    16,
-    16,
-    5,
-    6,
-    16,
-    4,
-    16,
-    16,
-    16,
-    16,
-    16,
-    16,
-    11,
-    16,
-    9,
-    10,
-    16,
-    16,
-    15,
-    16,
-    16,
-    8,
-    16,
-    16,
-    16,
-    16,
-    13,
-    14,
-    16,
-    12,
-    16,
-    16,
-    16,
-    16,
-    16,
-    16,
-    16,
-    16,
-    16,
-    16,
-    16,
 ];
 
 // The bits of a word.
@@ -162,11 +94,58 @@ pub(crate) fn word_of(code: Code, x: usize) -> usize
     }
 }
 
-// The table of 64. A constant is copied at each use: who reads many words asks for it once and lends it on (D16).
-pub(crate) fn halves() -> [u8; 64]
-    ensures { λ r. ⌜ Halves r ⌝ }
+// Table 10 from its other side, eight words of six chips to a row, the words from 8 * i on in row i: two hexadecimal
+// digits for each, its number, or 10h where it is no code word. What a `match` lists is read where it stands; a
+// constant would be copied at each use (D16).
+fn row(i: usize) -> usize
+    requires { ⌜ i < 8 ⌝ }
+    ensures { λ r. ⌜ r ≡ rowOf i ⌝ }
 {
-    HALVES
+    match i {
+        0 => 0x1010101010101010,
+        1 => 0x1010100310010210,
+        2 => 0x1010100710100010,
+        3 => 0x1005061004101010,
+        4 => 0x1010100b10090a10,
+        5 => 0x100f101008101010,
+        6 => 0x100d0e100c101010,
+        7 => 0x1010101010101010,
+        _ => 0,
+    }
+}
+
+// What the rows list for the word y.
+fn listed(y: usize) -> u8
+    requires { ⌜ y < 64 ⌝ }
+    ensures { λ r. ⌜ r ≡ listedFor y ⌝ }
+{
+    ((row(y / 8) >> ((56 - 8 * (y % 8)) as u32)) % 256) as u8
+}
+
+// Row i, a byte for each word, put behind those before it.
+fn put_row(i: usize, table: &mut [u8])
+    requires { ⌜ (i < 8) × Halves (8 * i) (now table) ⌝ }
+    ensures { λ r. ⌜ Halves (8 * i + 8) (now (table .exit)) ⌝ }
+{
+    let mut j: usize = 0;
+    while j < 8 {
+        table[8 * i + j] = listed(8 * i + j);
+        j += 1;
+    }
+}
+
+// The table of 64, a byte for each word, which the compiler works out. Who reads many words asks for it once and lends
+// it on (D16).
+pub(crate) fn halves() -> [u8; 64]
+    ensures { λ r. ⌜ Halves 64 r ⌝ }
+{
+    let mut table = [0u8; 64];
+    let mut i: usize = 0;
+    while i < 8 {
+        put_row(i, &mut table);
+        i += 1;
+    }
+    table
 }
 
 // What the three-of-six word y stands for.
@@ -174,8 +153,7 @@ fn half_of(y: usize) -> Value
     requires { ⌜ y < 64 ⌝ }
     ensures { λ r. ⌜ r ≡ wordValue (codeOf ThreeOfSix) y ⌝ }
 {
-    let table = halves();
-    let half = table[y];
+    let half = listed(y);
     if half < 16 {
         Value::Is(half)
     } else {

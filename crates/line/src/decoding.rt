@@ -12,7 +12,7 @@ ghost use Rattle.answers.specs.Outcome.{Outcome};
 ghost use Rattle.chips.specs.Chips.{chipCount, roomLimit};
 ghost use Rattle.line.specs.Codes.{codeOf, wordsIn, chipsIn};
 ghost use Rattle.line.specs.Decoding.{valueAt, goodRun, decoding, decoded};
-ghost use Rattle.line.specs.Inner.{Halves, byteRead};
+ghost use Rattle.line.specs.Inner.{unitOf, Halves, byteRead};
 ghost use Rattle.line.specs.declared.codes.Code.the-variants.{ThreeOfSix};
 ghost use Rattle.line.specs.declared.decoding.Decoded.{Decoded};
 
@@ -53,7 +53,7 @@ fn words_at(code: Code, s: &[u8], at: usize) -> Byte
 // The same for three-of-six, quicker: both words are cut out of half a window, which is one load, and looked up in
 // `halves`, the table of 64 (D16).
 fn halves_at(halves: &[u8], s: &[u8], at: usize) -> Byte
-    requires { ⌜ Halves (now halves) ⌝ }
+    requires { ⌜ Halves 64 (now halves) ⌝ }
     ensures { λ r. ⌜ r ≡ byteRead (codeOf ThreeOfSix) (now (s .entry)) at ⌝ }
 {
     let all = chips::half(s, at / 8) >> ((20 - at % 8) as u32);
@@ -70,11 +70,12 @@ fn halves_at(halves: &[u8], s: &[u8], at: usize) -> Byte
 
 // The byte whose words begin at chip `at`, the quickest way that its code has: a byte of NRZ is its own chips.
 fn byte_at(code: Code, halves: &[u8], s: &[u8], at: usize) -> Byte
-    requires { ⌜ Halves (now halves) ⌝ }
+    requires { ⌜ Halves 64 (now halves)
+        × ((length (now s) ≤ roomLimit) × (at + unitOf (codeOf code) ≤ chipCount (now s))) ⌝ }
     ensures { λ r. ⌜ r ≡ byteRead (codeOf code) (now (s .entry)) at ⌝ }
 {
     match code {
-        Code::Nrz => Byte::Is(chips::word(s, at, 8) as u8),
+        Code::Nrz => Byte::Is(chips::narrow(s, at, 8) as u8),
         Code::ThreeOfSix => halves_at(halves, s, at),
         Code::Manchester => words_at(code, s, at),
     }

@@ -24,7 +24,7 @@ pub fn word_at(code: Code, s: &[u8], at: usize) -> Word
     if 8 * s.len() - at < w {
         return Word::Refused(Refusal::Short);
     }
-    match codes::word_value(code, chips::word(s, at, w)) {
+    match codes::word_value(code, chips::narrow(s, at, w)) {
         Value::Is(x) => Word::Accepted(x),
         Value::NoWord => Word::Refused(Refusal::BadWord(0)),
     }

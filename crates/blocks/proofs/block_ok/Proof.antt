@@ -1,4 +1,4 @@
--- `blocks::block_ok` meets its contract: what the code compares are the two bytes that `blockOk` compares.
+-- `blocks::block_ok` meets its contract: the check that stands there is compared with the one that crc answers.
 -- Assumes nothing.
 use mathlib.Core.Path.{_≡_, sym}
 use Prim.Native.Nat.{_+_, _-_}
@@ -6,7 +6,7 @@ use native.Mathlib.Omega.{arith}
 use borrow.Author.Needs.{needs}
 use lib.ListN.{take, drop}
 use Rattle.crc.specs.Check.{checkOf}
-use Rattle.blocks.proofs.SealLaws.{blockOk-wrong, blockOk-second}
+use Rattle.blocks.proofs.SealLaws.{blockOk-check}
 use Rattle.blocks.proofs.block_ok.Statement.{statement}
 use Rattle.blocks.proofs.block_ok.Tie as tie
 
@@ -25,11 +25,8 @@ part-check-end c = search needs
 check-requires : tie.Need-check-requires
 check-requires c κs = search needs
 
-shared-slice-read-if1 : tie.Need-shared-slice-read-if1
-shared-slice-read-if1 c = search needs
-
-cast-if1 : tie.Need-cast-if1
-cast-if1 c = search needs
+check-at-requires : tie.Need-check-at-requires
+check-at-requires c κs = search needs
 
 -- the check that crc answers is that of the span
 check-span :
@@ -43,23 +40,11 @@ check-span c =
 
 returns : tie.Need-returns
 returns c =
-    let a = c .before .before .before .before .before .args in
-    sym (blockOk-wrong (a .s .now) (a .at) (a .k) (rw (check-span (c .before .before)) at (c .if1 .taken)))
-
-add-result : tie.Need-add-result
-add-result c = search needs
-
-shared-slice-read-result : tie.Need-shared-slice-read-result
-shared-slice-read-result c = search needs
-
-cast-result : tie.Need-cast-result
-cast-result c = search needs
-
-returns-2 : tie.Need-returns-2
-returns-2 c =
-    let b = c .before .before .before in
-    let a = b .before .before .before .args in
-    rw (check-span b) (sym (blockOk-second (a .s .now) (a .at) (a .k) (rw (check-span b) at (c .before .if1 .left))))
+    let b = c .before in
+    let k = b .before .before in
+    let a = k .before .args in
+    rw (c .check-at .ensures, check-span b)
+    (sym (blockOk-check (a .s .now) (a .at) (a .k) (omega (arith, k .shared-slice-known .given (a .at + a .k + 1)))))
 
 pub block-ok-spec : {M : Type 1} → statement M
 block-ok-spec =
@@ -70,10 +55,5 @@ block-ok-spec =
     part-check-start
     part-check-end
     check-requires
-    shared-slice-read-if1
-    cast-if1
-    returns
-    add-result
-    shared-slice-read-result
-    cast-result
-    returns-2)
+    check-at-requires
+    returns)

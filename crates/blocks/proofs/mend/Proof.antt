@@ -25,33 +25,13 @@ update-accepted :
     c .update .result ≡ Updated.Accepted (updatedAt (a .s .now) (a .byte) (a .check) (a .v))
 unfolding updatedAt
 update-accepted c =
-    let b = c .before .before .before in
-    let a = b .before .before .args in
+    let b = c .before .before in
+    let a = b .before .before .before .args in
     let e : a .distance ≡ a .check - 1 - a .byte = omega arith in
-    rw (le-leb (a .distance) 125 (omega arith), e) at (c .update .ensures .0)
+    rw (le-leb (a .distance) 125 (omega arith), e, b .check-at .ensures) at (c .update .ensures .0)
 
-slice-read-old-check : tie.Need-slice-read-old-check
-slice-read-old-check c = search needs
-
-cast-old-check : tie.Need-cast-old-check
-cast-old-check c = omega (arith, c .slice-known2 .given (c .before .before .args .check))
-
-mul-old-check : tie.Need-mul-old-check
-mul-old-check c = omega (arith, c .slice-known2 .given (c .before .before .args .check))
-
-add-old-check : tie.Need-add-old-check
-add-old-check c = search needs
-
-slice-read-old-check-2 : tie.Need-slice-read-old-check-2
-slice-read-old-check-2 c = search needs
-
-cast-old-check-2 : tie.Need-cast-old-check-2
-cast-old-check-2 c = omega (arith, c .slice-known3 .given (c .before .before .before .args .check + 1))
-
-add-old-check-2 : tie.Need-add-old-check-2
-add-old-check-2 c =
-    let q = c .before .before .before .args .check in
-    omega (arith, c .before .slice-known2 .given q, c .slice-known3 .given (q + 1))
+check-at-requires : tie.Need-check-at-requires
+check-at-requires c κs = search needs
 
 slice-read-old : tie.Need-slice-read-old
 slice-read-old c = search needs
@@ -64,6 +44,9 @@ enum-known-new-check c = search needs
 
 enum-told : tie.Need-enum-told
 enum-told c = search needs
+
+same-length : tie.Need-same-length
+same-length c = search needs
 
 returns : tie.Need-returns
 returns c = absurd (accepted-refused (sym (update-accepted (c .before .before)) ∙ c .enum-told .given .1))
@@ -86,8 +69,8 @@ add-s c = search needs
 slice-write-s-3 : tie.Need-slice-write-s-3
 slice-write-s-3 c = simp length-set (omega arith)
 
-same-length : tie.Need-same-length
-same-length c = search needs
+same-length-2 : tie.Need-same-length-2
+same-length-2 c = search needs
 
 returns-2 : tie.Need-returns-2
 unfolding mended
@@ -98,17 +81,12 @@ pub mend-spec : {M : Type 1} → statement M
 mend-spec =
     tie.close
     (tie.spec
-    slice-read-old-check
-    cast-old-check
-    mul-old-check
-    add-old-check
-    slice-read-old-check-2
-    cast-old-check-2
-    add-old-check-2
+    check-at-requires
     slice-read-old
     update-requires
     enum-known-new-check
     enum-told
+    same-length
     returns
     slice-write-s
     cast-s
@@ -116,5 +94,5 @@ mend-spec =
     cast-s-2
     add-s
     slice-write-s-3
-    same-length
+    same-length-2
     returns-2)

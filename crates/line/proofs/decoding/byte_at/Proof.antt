@@ -11,13 +11,15 @@ use Rattle.line.proofs.decoding.byte_at.Tie as tie
 enum-told : tie.Need-enum-told
 enum-told c = search needs
 
-word-requires : tie.Need-word-requires
-word-requires c κs = search needs
+narrow-requires : tie.Need-narrow-requires
+narrow-requires c κs =
+    let there = c .before .before .before .before .pre .1 in
+    (omega arith, (there .0, rw (c .enum-told .given .1) at (there .1)))
 
 cast-t7 : tie.Need-cast-t7
 cast-t7 c =
     let a = c .before .before .before .before .before .args in
-    omega (arith, c .word .ensures, wordAt-lt (a .s .now) (a .at) 8)
+    omega (arith, c .narrow .ensures, wordAt-lt (a .s .now) (a .at) 8)
 
 enum-told-2 : tie.Need-enum-told-2
 enum-told-2 c = search needs
@@ -34,7 +36,7 @@ words-at-requires c κs = search needs
 returns : tie.Need-returns
 returns c =
     let a = c .before .before .before .before .before .args in
-    rw (c .before .enum-told .given .1) (ap byte.Is (c .word .ensures) ∙ sym (byteRead-nrz (a .s .now) (a .at)))
+    rw (c .before .enum-told .given .1) (ap byte.Is (c .narrow .ensures) ∙ sym (byteRead-nrz (a .s .now) (a .at)))
 
 returns-2 : tie.Need-returns-2
 returns-2 c = rw (c .before .enum-told2 .given .1) (c .halves-at .ensures)
@@ -47,7 +49,7 @@ byte-at-spec =
     tie.close
     (tie.spec
     enum-told
-    word-requires
+    narrow-requires
     cast-t7
     enum-told-2
     halves-at-requires

@@ -4,6 +4,7 @@ use mathlib.Core.Path.{_≡_, sym, _∙_}
 use Prim.Native.Nat.{ℕ, _+_, _*_, _-_, _<_, _≤_}
 use native.Mathlib.Omega.{arith}
 use lib.ListN.{length}
+use Rattle.chips.specs.Chips.{chipCount, roomLimit}
 use Rattle.line.proofs.CodeLaws.{lawful, wordsIn-le}
 use Rattle.line.proofs.FillingLaws.{Filling, filling-start, filling-fits, filling-step, filling-bad, filling-end, filling-length}
 use Rattle.line.specs.Codes.{codeOf, wordsIn}
@@ -40,14 +41,16 @@ kept c =
     let h = c .before .before .before in
     filling-length (c .loop .inv) (h .before .before .before .pre .0 .1)
 
--- the words of byte i lie in the buffer
+-- the words of byte i lie in the buffer, which is no longer than its limit
 fits : (c : tie.In-loop Inv-loop μ-loop)
     → let u = c .before .before .before in
-    u .before .before .before .before .args .start + c .before .loop .i * u .unit .result + u .unit .result ≤ 8192
+    let a = u .before .before .before .before .args in
+    (length (a .s .now) ≤ roomLimit)
+    × (a .start + c .before .loop .i * u .unit .result + u .unit .result ≤ chipCount (a .s .now))
 fits c =
     let m = c .before .before .before .before in
-    let given = m .before .before .before .pre in
-    omega (arith, filling-fits (c .before .loop .inv) (c .loop-test .taken) (given .1 .1), given .1 .0)
+    let given = m .before .before .before .pre .1 in
+    (given .0, filling-fits (c .before .loop .inv) (c .loop-test .taken) (given .1))
 
 slice-aggregate-byte-at : tie.Need-slice-aggregate-byte-at Inv-loop μ-loop
 slice-aggregate-byte-at c = search needs
@@ -59,7 +62,10 @@ add-byte-at : tie.Need-add-byte-at Inv-loop μ-loop
 add-byte-at c = omega (arith, fits (c .before))
 
 byte-at-requires : tie.Need-byte-at-requires Inv-loop μ-loop
-byte-at-requires c κs = c .before .before .before .halves .ensures
+byte-at-requires c κs =
+    let h = c .before .before .before in
+    let there = fits (c .before) in
+    (h .halves .ensures, (there .0, omega (arith, there .1, h .before .unit .ensures)))
 
 enum-known-x : tie.Need-enum-known-x Inv-loop μ-loop
 enum-known-x c = search needs

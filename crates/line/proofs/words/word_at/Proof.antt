@@ -41,16 +41,20 @@ returns-2 c =
     sym (wordRead-short (codeOf (a .code)) (a .s .now) (a .at) (in-buffer e)
     (omega (arith, in-buffer e, c .before .width .ensures, c .if2 .taken)))
 
-word-requires : tie.Need-word-requires
-word-requires c κs =
-    let law = lawful (c .before .before .before .before .before .args .code) in
-    omega (arith, c .before .width .ensures, law .bits-pos, law .bits-le, law .chips-le)
+narrow-requires : tie.Need-narrow-requires
+narrow-requires c κs =
+    let e = c .before .before in
+    let law = lawful (e .before .before .before .args .code) in
+    let width = c .before .width .ensures in (
+      omega (arith, width, law .bits-pos, law .bits-le, law .chips-le),
+      omega (arith, in-buffer e, c .if2 .left),
+    )
 
 word-value-requires : tie.Need-word-value-requires
 word-value-requires c κs =
     let w = c .before .before in
     let a = w .before .before .before .before .args in
-    rw (c .word .ensures, ← w .width .ensures) (wordAt-lt (a .s .now) (a .at) (w .width .result))
+    rw (c .narrow .ensures, ← w .width .ensures) (wordAt-lt (a .s .now) (a .at) (w .width .result))
 
 enum-known-x : tie.Need-enum-known-x
 enum-known-x c = search needs
@@ -68,7 +72,7 @@ passed c =
     let κ = codeOf (a .code) in
     let told : c .word-value .result ≡ wordValue κ (wordAt (a .s .now) (a .at) (κ .chips))
     = c .word-value .ensures
-    ∙ ap (wordValue κ) (c .before .word .ensures ∙ ap (wordAt (a .s .now) (a .at)) (f .before .width .ensures)) in
+    ∙ ap (wordValue κ) (c .before .narrow .ensures ∙ ap (wordAt (a .s .now) (a .at)) (f .before .width .ensures)) in
     wordRead-fits κ (a .s .now) (a .at) (in-buffer e)
     (omega (arith, in-buffer e, f .before .width .ensures, f .if2 .left))
     ∙ ap wordFor (sym told)
@@ -89,7 +93,7 @@ word-at-spec =
     mul-if2
     sub-if2
     returns-2
-    word-requires
+    narrow-requires
     word-value-requires
     enum-known-x
     enum-told
