@@ -95,8 +95,9 @@ pub(crate) fn word_of(code: Code, x: usize) -> usize
 }
 
 // Table 10 from its other side, eight words of six chips to a row, the words from 8 * i on in row i: two hexadecimal
-// digits for each, its number, or 10h where it is no code word. What a `match` lists is read where it stands; a
-// constant would be copied at each use (D16).
+// digits for each, its number, or 10h where it is no code word. So 11, the fourth word of row 1, is 3. What a `match`
+// lists is read where it stands; a constant would be copied at each use (D11). The last arm is never reached: with
+// eight of their own the rows are one table, and nothing is tested.
 fn row(i: usize) -> usize
     requires { ⌜ i < 8 ⌝ }
     ensures { λ r. ⌜ r ≡ rowOf i ⌝ }
