@@ -6,8 +6,9 @@
  *  - Every pointer is valid for its length and not NULL, also where the length is 0.
  *  - `results` points to as many numbers as its array bound says.
  *  - Memory that is lent to be written (out, frame, results, row, centre) overlaps nothing else of the call.
- * Every value of every number is allowed: any place, size, allowance, count or byte gets an answer. No call
- * stops the program, keeps a pointer, or reads past a length.
+ * Every value of every number is allowed: any place, size, allowance, count or byte gets an answer. That every call
+ * ends is proved of the source, on the language's own machine; the stack that it needs is the caller's to provide.
+ * No call keeps a pointer or reads past a length.
  *
  * Every function that returns `uint8_t`, all but kusikhut_access, gives the answer's number, 0 for accepted:
  *    1 bytes or chips end too early    2 length byte not allowed     3 a block check is wrong

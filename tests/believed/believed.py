@@ -4,7 +4,7 @@
   believed.py [--list] [--write]
 
 Proofs are the checker's business; definitions are the reader's. This starts from the page of demands
-(crates/demands/proofs/Demands.antt: the types of its theorems and the fields of its records), follows every name to
+(crates/demands/specs/Demands.antt: the fields of its records), follows every name to
 where it is defined, and goes on from there until nothing new is met. It does the same from the page of the calls that
 are lent no memory (Unlent.antt beside it), from the starred table (Starred.antt, both sides of it) and from the
 contracts of all public functions (`pub fn` of crates/*/src: signature, `requires`, `ensures`). Counted are
@@ -30,7 +30,7 @@ import sys
 from collections import namedtuple
 from pathlib import Path
 
-DEMANDS, UNLENT, STARRED = (f"crates/demands/proofs/{page}.antt" for page in ("Demands", "Unlent", "Starred"))
+DEMANDS, STARRED = "crates/demands/specs/Demands.antt", "crates/demands/proofs/Starred.antt"
 PUBLISHED = Path("docs/BELIEVED.md")
 MARKS = r"(?:(?:abbrev|unfoldable|pub|opaque) )*"
 SIGNATURE = re.compile(rf"^{MARKS}([^\s(){{}};,.]+)\s*:(?:\s|$)")
@@ -129,7 +129,10 @@ class House:
     def file(self, path, own):
         names, modules = imports(path)
         crate = path.parts[1]
-        self.files[str(path)] = {**own, **{n: self.home(crate, *v) for n, v in names.items()}}, modules
+        known = {**own, **{n: self.home(crate, *v) for n, v in names.items()}}
+        # an operator of words, `_when_else_`, is used by its first word
+        known.update({n.split("_")[1]: key for n, key in known.items() if re.match(r"_[a-z]+_[a-z]+_$", n)})
+        self.files[str(path)] = known, modules
 
     def home(self, crate, module, name):
         """A name of the project as (module, name), a constructor as its type; None for any other."""
@@ -177,7 +180,7 @@ class House:
         found, todo = {}, [(key, item) for item in texts for key in self.names(item)]
         while todo:
             key, by = todo.pop()
-            if key not in found and self.defined[key].path not in (DEMANDS, UNLENT, STARRED):
+            if key not in found and self.defined[key].path not in (DEMANDS, STARRED):
                 found[key] = by
                 todo += [(k, self.defined[key]) for k in self.names(self.defined[key])]
         return found
@@ -217,8 +220,8 @@ def table(rows):
 def main(arguments):
     house = House()
     demands = house.reached(statements(DEMANDS))
-    unlent, starred = house.reached(statements(UNLENT)), house.reached(statements(STARRED))
-    pages = {**starred, **unlent, **demands}
+    starred = house.reached(statements(STARRED))
+    pages = {**starred, **demands}
     contracts = house.reached(house.public)
     believed = {**contracts, **pages}
     faults = []
@@ -231,15 +234,14 @@ def main(arguments):
     inner = house.reached(house.inner)
     for key, item in sorted(house.defined.items()):
         cited = key in believed or item.path.endswith("/Inner.antt") and key in inner
-        if "/specs/" in item.path and not cited:
+        if "/specs/" in item.path and not cited and item.path != DEMANDS:
             faults.append(f"{item.path}: `{item.name}` is reached by nothing")
     faults += sorted(set(house.open))
     records = [item for item in statements(DEMANDS) if TYPE.match(item.text[0])]
     rows = table([(f"`{item.name}`", house.figures(house.reached([item]))) for item in records] + [
         ("the demands", house.figures(demands)),
-        ("the calls that are lent no memory", house.figures(unlent)),
         ("the starred table", house.figures(starred)),
-        ("the three pages", house.figures(pages)),
+        ("both pages", house.figures(pages)),
         ("the contracts of all public functions", house.figures(contracts)),
         ("all of these", house.figures(believed)),
     ])

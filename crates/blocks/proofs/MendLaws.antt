@@ -22,7 +22,7 @@ use Rattle.crc.specs.CheckUpdate.{updatedCheck}
 use Rattle.crc.proofs.CheckLaws.{checkOf-changed}
 use Rattle.blocks.specs.declared.Checks.the-variants.{Right}
 use Rattle.blocks.specs.Spans.{sealed, framed, payload, firstWrong, sizeOf}
-use Rattle.blocks.specs.Places.{placeIn, checkIn, checkAt, updatedAt, mended, Touches}
+use Rattle.blocks.specs.Places.{placeIn, checkIn, checkAt, updatedAt, mended}
 use Rattle.blocks.proofs.SealLaws.{length-sealed, sealed-append, sealed-stores, getD-sealed-high, getD-sealed-low}
 use Rattle.blocks.proofs.SpanLaws.{total, length-payload, framed-payload}
 
@@ -126,6 +126,14 @@ module _ (s : List ℕ) {p q : ℕ} (v high low : ℕ) (before : p < q) (inside 
   getD-stores-high =
       let not-low : q ≡ q + 1 → ⊥ = λ e. omega arith in
       rw getD-set-other (getD-set-same (set s p v) q high 0 (simp length-set (omega arith)))
+
+-- how m differs from s: v at place p, the updated check at place q, and all else as it was
+pub record Touches (s m : List ℕ) (p q v : ℕ) : Type 0 where
+  pub size : length m ≡ length s
+  pub byte : getD m p 0 ≡ v
+  pub high : getD m q 0 ≡ updatedAt s p q v / 256
+  pub low : getD m (q + 1) 0 ≡ updatedAt s p q v % 256
+  pub others : (i : ℕ) → (i ≡ p → ⊥) → (i ≡ q → ⊥) → (i ≡ q + 1 → ⊥) → getD m i 0 ≡ getD s i 0
 
 pub mended-touches : (s : List ℕ) (p q v : ℕ) → p < q → q + 2 ≤ length s → Touches s (mended s p q v) p q v
 unfolding mended

@@ -5,15 +5,13 @@
 --     updatedAt s p q v    that check after byte p became v: by the old check, the old and the new byte, and the count
 --                          of bytes between p and the end of the span. Nothing else of s is looked at
 --     mended s p q v       s with v at place p and the updated check at place q
---     Touches s m p q v    how m differs from s: v at place p, the updated check at place q, and all else as it was
--- That what is mended touches so much, and is the changed payload written afresh, are theorems: proofs/MendLaws.
+-- That what is mended touches three bytes, and is the changed payload written afresh, are theorems: proofs/MendLaws.
 -- Assumes nothing.
 use mathlib.Core.Bool.{cond}
 use mathlib.Core.List.{List, [], _∷_}
-use mathlib.Core.Path.{_≡_}
 use Prim.Native.Nat.{ℕ, _+_, _-_, _*_, _/_, _%_}
 use lib.Dec.{ltb}
-use lib.ListN.{length, getD, set}
+use lib.ListN.{getD, set}
 use Rattle.crc.specs.CheckUpdate.{updatedCheck}
 
 unfoldable pub placeIn : List ℕ → ℕ → ℕ
@@ -32,10 +30,3 @@ updatedAt s p q v = updatedCheck (checkAt s q) (getD s p 0) v (q - 1 - p)
 
 unfoldable pub mended : List ℕ → ℕ → ℕ → ℕ → List ℕ
 mended s p q v = set (set (set s p v) q (updatedAt s p q v / 256)) (q + 1) (updatedAt s p q v % 256)
-
-pub record Touches (s m : List ℕ) (p q v : ℕ) : Type 0 where
-  pub size : length m ≡ length s
-  pub byte : getD m p 0 ≡ v
-  pub high : getD m q 0 ≡ updatedAt s p q v / 256
-  pub low : getD m (q + 1) 0 ≡ updatedAt s p q v % 256
-  pub others : (i : ℕ) → (i ≡ p → ⊥) → (i ≡ q → ⊥) → (i ≡ q + 1 → ⊥) → getD m i 0 ≡ getD s i 0

@@ -1,9 +1,8 @@
--- Worked readings (document 01, "On both sides of the edge": 44h in three-of-six is 011100 011100, in Manchester
--- 9A9Ah).
+-- Worked readings: bytes of EN 13757-4:2019, Annex C, word by word.
 --     readings κ s n p    the places of a reader that takes n words of the code κ, one by one, from the place p
 --     readings-worked     what is read, and where the reader then stands
--- The chips 71 C0 are 011100 011100 0000: two words and four chips that make none. 54 is 010101 00, and 010101 is no
--- code word.
+-- The chips 5A 90 are 010110 101001 0000: 0Fh in three-of-six (C.2.3) and four chips that make no word. 54 is
+-- 010101 00, and 010101 is no code word. 66 is the half-byte A in Manchester (6.4.1), 14 is 14h in NRZ (C.3.3).
 -- Assumes nothing.
 use mathlib.Core.Path.{_≡_, refl}
 use mathlib.Core.List.{List, [], _∷_, _++_}
@@ -26,16 +25,16 @@ abbrev pub placeAt : ℕ → Answer → Place
 placeAt k a = record { at = k; answer = a }
 
 pub readings-worked :
-    readings (codeOf ThreeOfSix) (0x71 ∷ 0xC0 ∷ []) 3 (startOf (0x71 ∷ 0xC0 ∷ []) 0)
+    readings (codeOf ThreeOfSix) (0x5A ∷ 0x90 ∷ []) 3 (startOf (0x5A ∷ 0x90 ∷ []) 0)
     ++ readings (codeOf ThreeOfSix) (0x54 ∷ []) 2 (startOf (0x54 ∷ []) 0)
-    ++ readings (codeOf Manchester) (0x9A ∷ []) 5 (startOf (0x9A ∷ []) 0)
-    ++ readings (codeOf Nrz) (0x44 ∷ []) 2 (startOf (0x44 ∷ []) 0)
-    ++ readings (codeOf Nrz) (0x44 ∷ []) 1 (startOf (0x44 ∷ []) 9)
-    ≡ placeAt 6 (Accepted 4) ∷ placeAt 12 (Accepted 4) ∷ placeAt 12 (Refused Short) ∷ []
+    ++ readings (codeOf Manchester) (0x66 ∷ []) 5 (startOf (0x66 ∷ []) 0)
+    ++ readings (codeOf Nrz) (0x14 ∷ []) 2 (startOf (0x14 ∷ []) 0)
+    ++ readings (codeOf Nrz) (0x14 ∷ []) 1 (startOf (0x14 ∷ []) 9)
+    ≡ placeAt 6 (Accepted 0) ∷ placeAt 12 (Accepted 15) ∷ placeAt 12 (Refused Short) ∷ []
     ++ (placeAt 0 (Refused (BadWord 0)) ∷ placeAt 0 (Refused (BadWord 0)) ∷ [])
-    ++ (placeAt 2 (Accepted 0) ∷ placeAt 4 (Accepted 1) ∷ placeAt 6 (Accepted 0) ∷ placeAt 8 (Accepted 0) ∷ [])
+    ++ (placeAt 2 (Accepted 1) ∷ placeAt 4 (Accepted 0) ∷ placeAt 6 (Accepted 1) ∷ placeAt 8 (Accepted 0) ∷ [])
     ++ (placeAt 8 (Refused Short) ∷ [])
-    ++ (placeAt 8 (Accepted 0x44) ∷ placeAt 8 (Refused Short) ∷ [])
+    ++ (placeAt 8 (Accepted 0x14) ∷ placeAt 8 (Refused Short) ∷ [])
     ++ (placeAt 0 (Refused OutOfRange) ∷ [])
 unfolding startOf stepOf wordRead numberFor gather
 readings-worked = refl

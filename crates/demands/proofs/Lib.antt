@@ -1,4 +1,12 @@
-pub mod HarmlessLaws
+pub mod RuleLaws
+pub mod CaseLaws
+pub mod LineRuleLaws
+pub mod SyncRuleLaws
+pub mod FrameRuleLaws
+pub mod RadioRuleLaws
+pub mod MeterRuleLaws
+pub mod TouchLaws
+pub mod TripRuleLaws
+pub mod ChannelRuleLaws
 pub mod Demands
-pub mod Unlent
 pub mod Starred

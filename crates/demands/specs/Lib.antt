@@ -1,1 +1,5 @@
-pub mod RefusesOnly
+pub mod Rules
+pub mod Cases
+pub mod Ladders
+pub mod Touched
+pub mod Demands

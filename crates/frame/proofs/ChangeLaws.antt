@@ -18,9 +18,9 @@ use lib.Seq.{set-getD, take-at, drop-at, set-out}
 use Rattle.answers.specs.declared.Refusal.{Refusal}
 use Rattle.answers.proofs.OutcomeLaws.{answer-cond, memory-cond}
 use Rattle.blocks.specs.Spans.{payload}
-use Rattle.blocks.specs.Places.{mended, Touches}
+use Rattle.blocks.specs.Places.{mended}
 use Rattle.blocks.proofs.PlaceLaws.{placed-lt}
-use Rattle.blocks.proofs.MendLaws.{mended-framed, mended-touches}
+use Rattle.blocks.proofs.MendLaws.{Touches, mended-framed, mended-touches}
 use Rattle.frame.specs.declared.Format.{Format}
 use Rattle.frame.specs.declared.Frame.{Frame}
 use Rattle.frame.specs.Formats.{formOf, spansOf, frameSize}

@@ -7,4 +7,3 @@ pub mod ReadLaws
 pub mod WriteLaws
 pub mod ChangeLaws
 pub mod SequenceLaws
-pub mod RefusalLaws

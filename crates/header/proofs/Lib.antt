@@ -3,6 +3,5 @@ pub mod FieldLaws
 pub mod HeaderReadsLaws
 pub mod HeaderWritesLaws
 pub mod HeaderTripLaws
-pub mod HeaderRefusalLaws
 pub mod AccessLaws
 pub mod WorkedExamples

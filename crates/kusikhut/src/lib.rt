@@ -14,3 +14,17 @@ mod address_calls; // address_calls.rt: the letters of a maker
 mod header_calls; // header_calls.rt: extended link headers, access
 mod filter_calls; // filter_calls.rt: the meter filter
 mod channels_calls; // channels_calls.rt: mode N rows, centres and bands
+
+// What the crate entry calls by its name; every function is exported, named here or not.
+pub use channels_calls::kusikhut_band_line;
+pub use channels_calls::kusikhut_centre;
+pub use crc_calls::kusikhut_update;
+pub use header_calls::kusikhut_header_write_8c;
+pub use header_calls::kusikhut_header_write_8d;
+pub use header_calls::kusikhut_header_write_8e;
+pub use header_calls::kusikhut_header_write_8f;
+pub use line_calls::kusikhut_decode_manchester;
+pub use line_calls::kusikhut_decode_nrz;
+pub use line_calls::kusikhut_decode_three_of_six;
+pub use radio_calls::kusikhut_receive;
+pub use sync_calls::kusikhut_search;

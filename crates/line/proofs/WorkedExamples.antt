@@ -1,6 +1,7 @@
--- The worked cases of document 01, "On both sides of the edge", computed from the definitions.
---     three-of-six-44     *three-of-six of 44h is chips 011100 011100, and four chips 0 to fill the second byte
---     manchester-44       *Manchester of 44h is 9A9Ah
+-- Worked examples, computed from the definitions. Document 01's starred 44h stands in demands/proofs/Starred.
+--     three-of-six-C2     bytes of EN 13757-4:2019, C.2.3: AE 0C are 100110 110010 010110 110100
+--     manchester-C1       bytes of C.1: the chips that it prints for 78 0B 13 43
+--     nrz-C3              a byte of C.3.3: 14h is 0001 0100
 --     three-of-six-15     15 bytes in three-of-six are 180 chips in 23 bytes, and the last four chips are 0
 --     never-words         7, 21, 42 and 56 have three ones and are no code words; nor are Manchester's 00 and 11
 --     nrz-every           every word of eight chips is a code word of NRZ
@@ -18,13 +19,19 @@ use Rattle.line.specs.Encoding.{encodedChip, encoding}
 use Rattle.line.specs.declared.codes.Code.the-variants.{Nrz, ThreeOfSix, Manchester}
 use Rattle.line.specs.declared.codes.Value.the-variants.{Is, NoWord}
 
-pub three-of-six-44 : encoding (codeOf ThreeOfSix) (0x44 ∷ []) ≡ 0b01110001 ∷ 0b11000000 ∷ []
+pub three-of-six-C2 : encoding (codeOf ThreeOfSix) (0xAE ∷ 0x0C ∷ []) ≡ 0b10011011 ∷ 0b00100101 ∷ 0b10110100 ∷ []
 unfolding gather tabulate packed encoding
-three-of-six-44 = refl
+three-of-six-C2 = refl
 
-pub manchester-44 : encoding (codeOf Manchester) (0x44 ∷ []) ≡ 0x9A ∷ 0x9A ∷ []
+pub manchester-C1 :
+    encoding (codeOf Manchester) (0x78 ∷ 0x0B ∷ 0x13 ∷ 0x43 ∷ [])
+    ≡ 0b10010101 ∷ 0b01101010 ∷ 0b10101010 ∷ 0b01100101 ∷ 0b10101001 ∷ 0b10100101 ∷ 0b10011010 ∷ 0b10100101 ∷ []
 unfolding gather tabulate packed encoding
-manchester-44 = refl
+manchester-C1 = refl
+
+pub nrz-C3 : encoding (codeOf Nrz) (0x14 ∷ []) ≡ 0b00010100 ∷ []
+unfolding gather tabulate packed encoding
+nrz-C3 = refl
 
 pub three-of-six-15 : (b : List ℕ) → length b ≡ 15
     → (chipsIn (codeOf ThreeOfSix) 15 ≡ 180) × ((length (encoding (codeOf ThreeOfSix) b) ≡ 23)

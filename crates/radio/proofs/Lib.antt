@@ -1,5 +1,4 @@
 pub mod AirLaws
-pub mod AirRefusalLaws
 pub mod DecodeCallLaws
 pub mod FrameHeardLaws
 pub mod HeardLaws
@@ -9,3 +8,4 @@ pub mod RoundLaws
 pub mod SendLaws
 pub mod SizeLaws
 pub mod ThroughLaws
+pub mod WorkedExamples

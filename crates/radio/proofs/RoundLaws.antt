@@ -6,12 +6,13 @@
 --     heard-sent           sending what was received gives back the chips that were received
 use mathlib.Core.List.{List, [], _++_}
 use mathlib.Core.Path.{_≡_, refl, ap, sym, _∙_}
-use Prim.Native.Nat.{ℕ, _+_, _*_, _≤_, _<_}
+use Prim.Native.Nat.{ℕ, _+_, _-_, _*_, _≤_, _<_}
 use native.Mathlib.Nat.{zero-add}
 use native.Mathlib.Omega.{arith}
 use borrow.Author.Tests.{le-ltb, ltb-false}
 use lib.Dec.{ltb}
-use lib.ListN.{length, drop, length-append, length-drop}
+use lib.ListN.{length, take, drop, length-append, length-take}
+use lib.Seq.{take-append-add}
 use Rattle.answers.specs.Outcome.{Outcome}
 use Rattle.answers.specs.declared.Refusal.{Refusal}
 use Rattle.answers.specs.declared.Written.{Written}
@@ -44,11 +45,6 @@ module _ (k : Kind) (c : List ℕ) where
       let frame = frameOf (formatOf k) c in
       let coded = length-encoding (lineOf k) frame ∙ ap (encodedSize (lineOf k)) (length-frameOf (formatOf k) c) in
       length-append (syncBytes k) (encoding (lineOf k) frame) ∙ ap (λ (x : ℕ). length (syncBytes k) + x) coded
-
-  -- memory that was sent into keeps its length
-  length-sentIn : (buf : List ℕ) → sentSize ≤ length buf → length (sentOf k c ++ drop sentSize buf) ≡ length buf
-  length-sentIn buf room =
-      omega (arith, length-append (sentOf k c) (drop sentSize buf), length-sentOf, length-drop sentSize buf)
 
   -- all chips that are sent lie in these bytes
   sentChips-le : sentChips k (length c) ≤ 8 * length (sentOf k c)
@@ -99,6 +95,25 @@ module _ (k : Kind) (c : List ℕ) where
           chips = λ i h. chipAt-middle pre (sentOf k c) post i (omega (arith, sentChips-le));
         }
 
+-- the first m bytes of memory that was sent into, where all that was sent is among them
+module _ (k : Kind) (c buf : List ℕ) where
+  take-sentIn :
+      (m : ℕ) → length (sentOf k c) ≤ m
+      → take m (sentOf k c ++ drop (sentSize k c) buf)
+      ≡ sentOf k c ++ take (m - length (sentOf k c)) (drop (sentSize k c) buf)
+  take-sentIn m h =
+      let all : length (sentOf k c) + (m - length (sentOf k c)) ≡ m = omega arith in
+      rw all at (take-append-add (sentOf k c) (drop (sentSize k c) buf) (m - length (sentOf k c)))
+
+  sent-fits :
+      {o : Outcome Written} {x : List ℕ} {y m : ℕ}
+      → o ≡ record { answer = Written.Accepted (sentSize k c); memory = x } → o .answer ≡ Written.Accepted y → y ≤ m
+      → length (sentOf k c) ≤ m
+  sent-fits {y = y} is e h =
+      let answer = ap (λ (x : Outcome Written). x .answer) is in
+      let same : sentSize k c ≡ y = cc in
+      omega (arith, same, length-sentOf k c)
+
 module _ (k : Kind) (c d : List ℕ) (bytes : Bytes c) (room : length c ≤ length d) where
   pub receivingOf-among :
       (pre post : List ℕ) (start a t : ℕ) → formOf (formatOf k) .shortest ≤ length c
@@ -111,15 +126,17 @@ module _ (k : Kind) (c d : List ℕ) (bytes : Bytes c) (room : length c ≤ leng
       (record { small = small; reached = reached; sent = sent; count = refl; size = refl; room = room })
 
   pub sent-heard :
-      (buf : List ℕ) (a y : ℕ) → length buf ≤ roomLimit → 0 < a → sendingOf k c buf .answer ≡ Written.Accepted y
-      → receivingOf k (sendingOf k c buf .memory) 0 a d
+      (buf : List ℕ) (a y m : ℕ) → 0 < a → sendingOf k c buf .answer ≡ Written.Accepted y → y ≤ m → m ≤ roomLimit
+      → receivingOf k (take m (sendingOf k c buf .memory)) 0 a d
       ≡ heardOf k 0 (firstTry k) (frameSize (formatOf k) (length c)) c d
-  sent-heard buf a y small some e =
+  sent-heard buf a y m some e whole small =
       let p = sendingOf-accepted k c buf e in
-      let memory = ap (λ (o : Outcome Written). o .memory) (sendingOf-accepts k c buf (p .low) (p .high) (p .room)) in
-      let rest = drop (sentSize k c) buf in
+      let o = sendingOf-accepts k c buf (p .low) (p .high) (p .room) in
+      let rest = take (m - length (sentOf k c)) (drop (sentSize k c) buf) in
+      let among = sent-fits k c buf o e whole in
+      let memory = ap (λ (x : Outcome Written). take m (x .memory)) o ∙ take-sentIn k c buf m among in
       let reached = reached-sent k (sentAt-among k c bytes (p .low) (p .high) [] rest) some in
-      let fits : length (sentOf k c ++ rest) ≤ roomLimit = rw (length-sentIn k c buf (p .room)) small in
+      let fits : length (sentOf k c ++ rest) ≤ roomLimit = rw (← memory, length-take) (omega arith) in
       ap (λ (s : List ℕ). receivingOf k s 0 a d) memory
       ∙ receivingOf-among [] rest 0 a (firstTry k) (p .low) (p .high) fits reached
 

@@ -3,3 +3,4 @@ pub mod PassedLaws
 pub mod ScanLaws
 pub mod SearchLaws
 pub mod TailLaws
+pub mod WorkedExamples

@@ -6,7 +6,7 @@
 --     found-first, first-found         Found exactly where the word stands first, within the allowance
 --     nosync-nowhere, nowhere-nosync   NoSync exactly where the word stands at no position and all are allowed
 --     usedup-nowhere, nowhere-usedup   UsedUp exactly where it stands at none of those allowed, and some are left
-use mathlib.Core.Bool.{false}
+use mathlib.Core.Bool.{true, false}
 use mathlib.Core.Path.{_≡_, refl, sym, _∙_}
 use mathlib.Core.List.{List}
 use Prim.Native.Nat.{ℕ, _+_, _-_, _≤_, _<_, min}
@@ -59,29 +59,29 @@ module _ (v w : ℕ) (s : List ℕ) (start a : ℕ) where
   abbrev most : ℕ
   most = min a there
 
-  abbrev gone : ℕ
+  abbrev pub gone : ℕ
   gone = passed (standsAt v w s) start most
 
-  data Ends : Sync → Type 0 where
-    outside : Ends (Refused OutOfRange)
-    stops : gone < most → Ends (Found (start + gone) (gone + 1))
-    tries-all : most ≤ gone → there ≤ a → Ends (Refused (NoSync there))
-    tries-some : most ≤ gone → a < there → Ends (Refused (UsedUp a))
+  pub data Ends : Sync → Type 0 where
+    outside : inRange s start ≡ false → Ends (Refused OutOfRange)
+    stops : inRange s start ≡ true → gone < most → Ends (Found (start + gone) (gone + 1))
+    tries-all : inRange s start ≡ true → most ≤ gone → there ≤ a → Ends (Refused (NoSync there))
+    tries-some : inRange s start ≡ true → most ≤ gone → a < there → Ends (Refused (UsedUp a))
 
-  answer-ends : Ends (answerAfter start a there gone)
-  answer-ends =
-      by-test (ltb gone most) (λ e. rw e (stops (ltb-true gone most e)))
+  answer-ends : inRange s start ≡ true → Ends (answerAfter start a there gone)
+  answer-ends inside =
+      by-test (ltb gone most) (λ e. rw e (stops inside (ltb-true gone most e)))
       (λ e.
       let all : most ≤ gone = ltb-false gone most e in
-      by-test (leb there a) (λ d. rw (e, d) (tries-all all (leb-true there a d)))
-      (λ d. rw (e, d) (tries-some all (leb-false there a d))))
+      by-test (leb there a) (λ d. rw (e, d) (tries-all inside all (leb-true there a d)))
+      (λ d. rw (e, d) (tries-some inside all (leb-false there a d))))
 
-  searchFor-ends : Ends (searchFor v w s start a)
+  pub searchFor-ends : Ends (searchFor v w s start a)
   unfolding searchFor
-  searchFor-ends = by-test (inRange s start) (λ e. rw e answer-ends) (λ e. rw e outside)
+  searchFor-ends = by-test (inRange s start) (λ e. rw e (answer-ends e)) (λ e. rw e (outside e))
 
   -- the word stands at no place that was passed over
-  nowhere-passed : Nowhere v w s start gone
+  pub nowhere-passed : Nowhere v w s start gone
   nowhere-passed j l m d =
       let q : start + (j - start) ≡ j = omega arith in
       eqb-false (wordAt s j w) v (rw q at (passed-misses (standsAt v w s) start most (j - start) (omega arith))) d
@@ -89,7 +89,7 @@ module _ (v w : ℕ) (s : List ℕ) (start a : ℕ) where
   passed-scanned : {i : ℕ} → InBuffer s start → i ≡ gone → Scanned v w s start a there most i
   passed-scanned b over = record { within = b; there = refl; most = refl; over = over }
 
-  passed-lt-first : gone < most → FirstAt v w s start a (start + gone) (gone + 1)
+  pub passed-lt-first : gone < most → FirstAt v w s start a (start + gone) (gone + 1)
   passed-lt-first l =
       record {
         behind = omega arith;
@@ -101,7 +101,7 @@ module _ (v w : ℕ) (s : List ℕ) (start a : ℕ) where
       }
 
   found-end : {k t : ℕ} → Ends (Found k t) → FirstAt v w s start a k t
-  found-end (stops l) = passed-lt-first l
+  found-end (stops inside l) = passed-lt-first l
 
   pub found-first : (k t : ℕ) → searchFor v w s start a ≡ Found k t → FirstAt v w s start a k t
   found-first k t e = found-end (rw e at searchFor-ends)
@@ -121,14 +121,14 @@ module _ (v w : ℕ) (s : List ℕ) (start a : ℕ) where
       searchFor-found (passed-scanned in-buffer (passed-to f)) (omega (arith, f)) ∙ rw (here, tried)
 
   nosync-end : {t : ℕ} → Ends (Refused (NoSync t)) → (t ≡ there) × ((t ≤ a) × Nowhere v w s start t)
-  nosync-end (tries-all l h) = (refl, (h, λ j b m. nowhere-passed j b (omega arith)))
+  nosync-end (tries-all inside l h) = (refl, (h, λ j b m. nowhere-passed j b (omega arith)))
 
   pub nosync-nowhere : (t : ℕ) → searchFor v w s start a ≡ Refused (NoSync t)
       → (t ≡ positions w s start) × ((t ≤ a) × Nowhere v w s start t)
   nosync-nowhere t e = nosync-end (rw e at searchFor-ends)
 
   usedup-end : {t : ℕ} → Ends (Refused (UsedUp t)) → (t ≡ a) × ((a < there) × Nowhere v w s start t)
-  usedup-end (tries-some l h) = (refl, (h, λ j b m. nowhere-passed j b (omega arith)))
+  usedup-end (tries-some inside l h) = (refl, (h, λ j b m. nowhere-passed j b (omega arith)))
 
   pub usedup-nowhere : (t : ℕ) → searchFor v w s start a ≡ Refused (UsedUp t)
       → (t ≡ a) × ((a < positions w s start) × Nowhere v w s start t)

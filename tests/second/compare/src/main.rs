@@ -1,22 +1,33 @@
-//! Runs the proved library and the second program on the same cases and compares numbers, values and every lent byte.
+//! Runs the proved library and the second program on the same cases and compares numbers, every field of the rows of
+//! results, and every lent byte.
 //!
-//! - `compare SEED COUNT` takes every small input, and makes COUNT cases from SEED.
+//! - `compare SEED COUNT` takes every small input, and makes COUNT cases from SEED; then a quarter of them through the
+//!   safe wrapper, which must say what the library said.
+//! - `compare words SEED COUNT` runs the program `words`, and with it the chip reader, on its edges and COUNT inputs.
 //! - `compare rerun` reads cases from standard input, one a line, and prints what both make of each.
 mod proved;
+#[path = "../../../../rust/kusikhut/src/raw.rs"]
+mod raw;
+#[cfg(test)]
+mod tests;
+mod wrapped;
 
 use proved::Proved;
 use second::case::Case;
-use second::compare::{compare, compare_small_inputs};
+use second::compare::{compare, compare_cases, compare_small_inputs};
+use second::generator::words_cases;
 use second::implementation::Second;
 use std::io::BufRead;
 use std::process::ExitCode;
+use wrapped::Wrapped;
 
 fn main() -> ExitCode {
     let words: Vec<String> = std::env::args().skip(1).collect();
     let done = match &words[..] {
         [one] if one == "rerun" => rerun(),
         [seed, count] => run(seed, count),
-        _ => Err("usage: compare SEED COUNT | compare rerun".into()),
+        [one, seed, count] if one == "words" => run_words(seed, count),
+        _ => Err("usage: compare SEED COUNT | compare words SEED COUNT | compare rerun".into()),
     };
     match done {
         Ok(()) => ExitCode::SUCCESS,
@@ -37,8 +48,32 @@ fn run(seed: &str, count: &str) -> Result<(), String> {
     let small = compare_small_inputs(&Proved, &Second).map_err(differ)?;
     let made = compare(&Proved, &Second, seed, count).map_err(differ)?;
     println!("{made}");
-    println!("tests/second: no difference in {} cases from seed {seed} and {} small inputs", made.total(), small.total());
+    let (cases, inputs) = (made.total(), small.total());
+    println!("tests/second: no difference in {cases} cases from seed {seed} and {inputs} small inputs");
+    let differ = |d| format!("the proved library (first) and its wrapper differ, seed {seed}:\n{d}");
+    compare_small_inputs(&Proved, &Wrapped).map_err(differ)?;
+    let wrapped = compare(&Proved, &Wrapped, seed, count / 4).map_err(differ)?;
+    println!("tests/second: the wrapper says the same in {} of them and every small input", wrapped.total());
     Ok(())
+}
+
+fn run_words(seed: &str, count: &str) -> Result<(), String> {
+    let cases = words_cases(number(seed)?, number(count)? as usize);
+    let made = compare_cases(&Proved, &Second, cases).map_err(|d| {
+        let line = first_line_apart(&d.first.lent, &d.second.lent);
+        format!("the program words (first) and the second program differ, seed {seed}:\n{}\n{line}", d.case)
+    })?;
+    println!("tests/second: no difference in {} inputs of the program words, which runs the chip reader", made.total());
+    Ok(())
+}
+
+/// The first line in which two texts differ.
+fn first_line_apart(first: &[u8], second: &[u8]) -> String {
+    let lines = |text: &[u8]| -> Vec<String> { String::from_utf8_lossy(text).lines().map(str::to_owned).collect() };
+    let (first, second) = (lines(first), lines(second));
+    let same = first.iter().zip(&second).take_while(|(a, b)| a == b).count();
+    let line = |text: &[String]| text.get(same).cloned().unwrap_or("no line".into());
+    format!("line {}: first: {}, second: {}", same + 1, line(&first), line(&second))
 }
 
 fn rerun() -> Result<(), String> {

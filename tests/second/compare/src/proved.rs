@@ -1,7 +1,8 @@
-//! The proved library as the second program's comparison wants it. Every lent slice is lent out of the middle of a larger
-//! buffer, so that a byte written outside of it would be seen.
-use kusikhut::{self as library, Refusal};
-use second::answer::{self, Answer};
+//! The proved library, called as a program in C calls it: the exported functions themselves and their rows of results,
+//! whole. Every row and every lent slice stands between two fences, so that a write outside of it would be seen, and a
+//! row holds a number before the call that no answer has, so that a field that is not written would be seen.
+use crate::raw;
+use second::answer::Answer;
 use second::channels::quarters;
 use second::chips::Code;
 use second::filter::Entries;
@@ -9,14 +10,17 @@ use second::frames::Format;
 use second::headers::{Header, HeaderKind};
 use second::implementation::Implementation;
 use second::sync::Kind;
+use std::io::Write;
+use std::process::{Command, Stdio};
 
 pub struct Proved;
 
 const GUARD: usize = 32;
 const FENCE: u8 = 0xA5;
+pub const UNWRITTEN: u64 = 0xA5A5_A5A5_A5A5_A5A5;
 
 /// Runs `call` on a copy of `lent` that stands between two fences, and puts what it left back.
-fn fenced<T>(lent: &mut [u8], call: impl FnOnce(&mut [u8]) -> T) -> T {
+pub fn fenced<T>(lent: &mut [u8], call: impl FnOnce(&mut [u8]) -> T) -> T {
     let end = GUARD + lent.len();
     let mut memory = vec![FENCE; end + GUARD];
     memory[GUARD..end].copy_from_slice(lent);
@@ -27,195 +31,186 @@ fn fenced<T>(lent: &mut [u8], call: impl FnOnce(&mut [u8]) -> T) -> T {
     got
 }
 
-fn answer<T, const N: usize>(result: Result<T, Refusal>, values: impl FnOnce(T) -> [u64; N]) -> Answer {
-    match result {
-        Ok(accepted) => Answer::accepted(&values(accepted)),
-        Err(refusal) => {
-            let mut answer = Answer::accepted(&[refusal.value().map_or(0, |(_, value)| value)]);
-            answer.number = refusal.number().into();
-            answer
-        }
-    }
+/// Lends `call` a row of so many results; tells the number that it answered, and the whole row.
+pub fn told(results: usize, call: impl FnOnce(*mut u64) -> u8) -> Answer {
+    let mut memory = vec![UNWRITTEN; results + 2];
+    let number = call(memory.as_mut_ptr().wrapping_add(1)).into();
+    let fences = [memory[0], memory[results + 1]];
+    assert_eq!(fences, [UNWRITTEN; 2], "the library wrote outside of its row of results");
+    Answer { number, row: memory[1..=results].to_vec() }
 }
 
-fn code(code: Code) -> library::Code {
-    match code {
-        Code::Nrz => library::Code::Nrz,
-        Code::ThreeOfSix => library::Code::ThreeOfSix,
-        Code::Manchester => library::Code::Manchester,
-    }
+/// The same for a row of floats in kilohertz, told in quarters of one. A float that is no whole number of them, as one
+/// that was not written, is told as a number that no row has.
+pub fn told_floats(results: usize, call: impl FnOnce(*mut f64) -> u8) -> Answer {
+    let mut memory = vec![f64::NAN; results + 2];
+    let number = call(memory.as_mut_ptr().wrapping_add(1)).into();
+    assert!(memory[0].is_nan() && memory[results + 1].is_nan(), "the library wrote outside of its row of floats");
+    let row = memory[1..=results].iter().map(|&khz| quarters(khz).unwrap_or(UNWRITTEN)).collect();
+    Answer { number, row }
 }
 
-fn format(format: Format) -> library::Format {
-    match format {
-        Format::A => library::Format::A,
-        Format::B => library::Format::B,
-    }
+/// The shape that all writers share.
+fn written(call: raw::BytesOut, bytes: &[u8], out: &mut [u8]) -> Answer {
+    // Sound: both slices are valid for their lengths, and `told` lends one result.
+    fenced(out, |o| told(1, |r| unsafe { call(bytes.as_ptr(), bytes.len(), o.as_mut_ptr(), o.len(), r) }))
 }
 
-fn kind(kind: Kind) -> library::Kind {
-    match kind {
-        Kind::TWithA => library::Kind::TWithA,
-        Kind::CWithA => library::Kind::CWithA,
-        Kind::CWithB => library::Kind::CWithB,
-        Kind::ManchesterWithA => library::Kind::ManchesterWithA,
-    }
-}
-
-fn kind_number(kind: library::Kind) -> u64 {
-    match kind {
-        library::Kind::TWithA => Kind::TWithA as u64,
-        library::Kind::CWithA => Kind::CWithA as u64,
-        library::Kind::CWithB => Kind::CWithB as u64,
-        library::Kind::ManchesterWithA => Kind::ManchesterWithA as u64,
-    }
-}
-
-fn reception(got: library::Received) -> [u64; 5] {
-    [kind_number(got.kind), got.place, got.tried, got.size, got.n]
-}
-
-fn first_byte_highest(bytes: &[u8]) -> u64 {
-    bytes.iter().fold(0, |number, &byte| 256 * number + u64::from(byte))
-}
-
-fn header(h: &Header) -> library::Header {
-    let (cc, acc, m2, a2, sn, crc) = (h.cc, h.acc, h.m2, h.a2, h.sn, h.payload_crc);
-    match h.kind {
-        HeaderKind::Short => library::Header::Plain { cc, acc },
-        HeaderKind::Session => library::Header::Secured { cc, acc, sn, crc },
-        HeaderKind::Address => library::Header::Addressed { cc, acc, m2, a2 },
-        HeaderKind::AddressAndSession => library::Header::AddressedSecured { cc, acc, m2, a2, sn, crc },
-    }
-}
-
-fn header_values((h, length): (library::Header, u64)) -> [u64; 8] {
-    use library::Header::*;
-    let (cc, acc, m2, a2, sn, crc) = match h {
-        Plain { cc, acc } => (cc, acc, 0, [0; 6], 0, [0; 2]),
-        Secured { cc, acc, sn, crc } => (cc, acc, 0, [0; 6], sn, crc),
-        Addressed { cc, acc, m2, a2 } => (cc, acc, m2, a2, 0, [0; 2]),
-        AddressedSecured { cc, acc, m2, a2, sn, crc } => (cc, acc, m2, a2, sn, crc),
-    };
-    [
-        h.ci().into(),
-        length,
-        cc.into(),
-        acc.into(),
-        m2.into(),
-        first_byte_highest(&a2),
-        sn.into(),
-        first_byte_highest(&crc),
-    ]
-}
-
-/// A float that is no whole number of quarter kilohertz is shown as one that no row has.
-fn whole_quarters(khz: f64) -> u64 {
-    quarters(khz).unwrap_or(u64::MAX)
-}
-
+// Every call below is sound for the same reasons: slices are passed with their own lengths, what is lent to be written
+// is borrowed for the call alone, and `told` lends as many results as include/kusikhut.h gives the function.
 impl Implementation for Proved {
-    fn decode(&self, c: Code, chips: &[u8], start: usize, n: usize, out: &mut [u8]) -> Answer {
-        answer(fenced(out, |out| code(c).decode(chips, start, n, out)), |()| [n as u64])
+    fn decode(&self, code: Code, chips: &[u8], start: usize, n: usize, out: &mut [u8]) -> Answer {
+        let call: raw::Decode = match code {
+            Code::Nrz => raw::kusikhut_decode_nrz,
+            Code::ThreeOfSix => raw::kusikhut_decode_three_of_six,
+            Code::Manchester => raw::kusikhut_decode_manchester,
+        };
+        let (c, cl) = (chips.as_ptr(), chips.len());
+        fenced(out, |o| told(1, |r| unsafe { call(c, cl, start, n, o.as_mut_ptr(), o.len(), r) }))
     }
 
-    fn encode(&self, c: Code, bytes: &[u8], out: &mut [u8]) -> Answer {
-        answer(fenced(out, |out| code(c).encode(bytes, out)), |size| [size])
+    fn encode(&self, code: Code, bytes: &[u8], out: &mut [u8]) -> Answer {
+        let call = match code {
+            Code::Nrz => raw::kusikhut_encode_nrz,
+            Code::ThreeOfSix => raw::kusikhut_encode_three_of_six,
+            Code::Manchester => raw::kusikhut_encode_manchester,
+        };
+        written(call, bytes, out)
     }
 
-    fn word(&self, c: Code, chips: &[u8], place: &mut usize) -> Answer {
-        let got = code(c).word(chips, *place);
-        if got.is_ok() {
-            *place += code(c).width();
-        }
-        answer(got, |value| [value])
+    fn word(&self, code: Code, chips: &[u8], at: usize) -> Answer {
+        let call: raw::Word = match code {
+            Code::Nrz => raw::kusikhut_word_nrz,
+            Code::ThreeOfSix => raw::kusikhut_word_three_of_six,
+            Code::Manchester => raw::kusikhut_word_manchester,
+        };
+        told(1, |r| unsafe { call(chips.as_ptr(), chips.len(), at, r) })
     }
 
     fn search(&self, chips: &[u8], start: usize, allowance: usize) -> Answer {
-        answer(library::search(chips, start, allowance), |found| [found.place, found.tried])
+        told(2, |r| unsafe { raw::kusikhut_search(chips.as_ptr(), chips.len(), start, allowance, r) })
     }
 
     fn check(&self, bytes: &[u8]) -> Answer {
-        Answer::accepted(&[library::check(bytes).into()])
+        Answer::accepted(&[unsafe { raw::kusikhut_check(bytes.as_ptr(), bytes.len()) }.into()])
     }
 
     fn check_update(&self, old_check: u16, old_byte: u8, new_byte: u8, distance: usize) -> Answer {
-        answer(library::update(old_check, old_byte, new_byte, distance), |check| [check.into()])
+        told(1, |r| unsafe { raw::kusikhut_update(old_check, old_byte, new_byte, distance, r) })
     }
 
-    fn frame_read(&self, f: Format, bytes: &[u8], out: &mut [u8]) -> Answer {
-        answer(fenced(out, |out| format(f).read(bytes, out)), |frame| [frame.size, frame.n])
+    fn frame_read(&self, format: Format, bytes: &[u8], out: &mut [u8]) -> Answer {
+        let call: raw::BytesOut = match format {
+            Format::A => raw::kusikhut_read_a,
+            Format::B => raw::kusikhut_read_b,
+        };
+        let (b, bl) = (bytes.as_ptr(), bytes.len());
+        fenced(out, |o| told(3, |r| unsafe { call(b, bl, o.as_mut_ptr(), o.len(), r) }))
     }
 
-    fn frame_write(&self, f: Format, content: &[u8], out: &mut [u8]) -> Answer {
-        answer(fenced(out, |out| format(f).write(content, out)), |size| [size])
+    fn frame_write(&self, format: Format, content: &[u8], out: &mut [u8]) -> Answer {
+        let call = match format {
+            Format::A => raw::kusikhut_write_a,
+            Format::B => raw::kusikhut_write_b,
+        };
+        written(call, content, out)
     }
 
-    fn frame_change(&self, f: Format, frame: &mut [u8], place: usize, byte: u8) -> Answer {
-        answer(fenced(frame, |frame| format(f).change(frame, place, byte)), |frame| [frame.size])
+    fn frame_change(&self, format: Format, frame: &mut [u8], place: usize, byte: u8) -> Answer {
+        let call: raw::Change = match format {
+            Format::A => raw::kusikhut_change_a,
+            Format::B => raw::kusikhut_change_b,
+        };
+        fenced(frame, |f| told(3, |r| unsafe { call(f.as_mut_ptr(), f.len(), place, byte, r) }))
     }
 
-    fn frame_size(&self, f: Format, length: u8) -> Answer {
-        answer(format(f).frame_size(length), |size| [size])
+    fn frame_size(&self, format: Format, length: u8) -> Answer {
+        let call: raw::Size = match format {
+            Format::A => raw::kusikhut_frame_size_a,
+            Format::B => raw::kusikhut_frame_size_b,
+        };
+        told(1, |r| unsafe { call(length, r) })
     }
 
     fn receive(&self, chips: &[u8], start: usize, allowance: usize, out: &mut [u8]) -> Answer {
-        answer(fenced(out, |out| library::receive(chips, start, allowance, out)), reception)
+        let (c, cl) = (chips.as_ptr(), chips.len());
+        fenced(out, |o| {
+            told(7, |r| unsafe { raw::kusikhut_receive(c, cl, start, allowance, o.as_mut_ptr(), o.len(), r) })
+        })
     }
 
     fn receive_manchester(&self, chips: &[u8], start: usize, out: &mut [u8]) -> Answer {
-        answer(fenced(out, |out| library::receive_manchester(chips, start, out)), reception)
+        let (c, cl) = (chips.as_ptr(), chips.len());
+        fenced(out, |o| {
+            told(7, |r| unsafe { raw::kusikhut_receive_manchester(c, cl, start, o.as_mut_ptr(), o.len(), r) })
+        })
     }
 
-    fn send(&self, k: Kind, content: &[u8], out: &mut [u8]) -> Answer {
-        answer(fenced(out, |out| kind(k).send(content, out)), |bytes| [bytes])
+    fn send(&self, kind: Kind, content: &[u8], out: &mut [u8]) -> Answer {
+        let call = match kind {
+            Kind::TWithA => raw::kusikhut_send_t_a,
+            Kind::CWithA => raw::kusikhut_send_c_a,
+            Kind::CWithB => raw::kusikhut_send_c_b,
+            Kind::ManchesterWithA => raw::kusikhut_send_manchester_a,
+        };
+        written(call, content, out)
     }
 
     fn header_read(&self, body: &[u8]) -> Answer {
-        answer(library::Header::read(body), header_values)
+        told(14, |r| unsafe { raw::kusikhut_header_read(body.as_ptr(), body.len(), r) })
     }
 
     fn header_write(&self, h: &Header, out: &mut [u8]) -> Answer {
-        answer(fenced(out, |out| header(h).write(out)), |length| [length])
+        let (cc, acc, m2, sn, a2, crc) = (h.cc, h.acc, h.m2, h.sn, h.a2.as_ptr(), h.payload_crc.as_ptr());
+        let call = |o: *mut u8, ol, r| unsafe {
+            match h.kind {
+                HeaderKind::Short => raw::kusikhut_header_write_8c(cc, acc, o, ol, r),
+                HeaderKind::Session => raw::kusikhut_header_write_8d(cc, acc, sn, crc, o, ol, r),
+                HeaderKind::Address => raw::kusikhut_header_write_8e(cc, acc, m2, a2, o, ol, r),
+                HeaderKind::AddressAndSession => raw::kusikhut_header_write_8f(cc, acc, m2, a2, sn, crc, o, ol, r),
+            }
+        };
+        fenced(out, |o| told(1, |r| call(o.as_mut_ptr(), o.len(), r)))
     }
 
     fn access(&self, cc: u8) -> Answer {
-        Answer::accepted(&[match library::access(cc) {
-            library::Access::Never => 0,
-            library::Access::NotNow => 1,
-            library::Access::Limited => 2,
-            library::Access::Always => 3,
-        }])
+        Answer::accepted(&[unsafe { raw::kusikhut_access(cc) }.into()])
     }
 
     fn letters(&self, m: u16) -> Answer {
-        match library::letters(m) {
-            Some([a, b, c]) => Answer::accepted(&[1, a.into(), b.into(), c.into()]),
-            None => Answer::accepted(&[0]),
-        }
+        told(4, |r| unsafe { raw::kusikhut_letters(m, r) })
     }
 
     fn filter(&self, entries: &Entries, count: usize, content: &[u8]) -> Answer {
-        answer(library::wanted(entries, count, content), |yes| [yes.into()])
+        let (e, c, cl) = (entries.as_ptr().cast(), content.as_ptr(), content.len());
+        told(1, |r| unsafe { raw::kusikhut_filter(e, count, c, cl, r) })
     }
 
-    /// The row itself has no refusal: three zeros stand for 13, as its definition says.
+    /// The call has no number, since it refuses nothing.
     fn channel_row(&self, index: usize) -> Answer {
-        let row = library::row(index);
-        let values = [row.centre, row.spacing, row.tolerance].map(whole_quarters);
-        if values == [0; 3] { Answer::refused(answer::Refusal::NoSuchChannel) } else { Answer::accepted(&values) }
+        told_floats(3, |row| {
+            unsafe { raw::kusikhut_row(index, row) };
+            0
+        })
     }
 
     fn channel_centre(&self, index: usize, channel: usize) -> Answer {
-        answer(library::centre(index, channel), |khz| [whole_quarters(khz)])
+        told_floats(1, |centre| unsafe { raw::kusikhut_centre(index, channel, centre) })
     }
 
-    fn band_listing(&self, input: &[u8]) -> Vec<u8> {
-        let mut lines = (0..).map_while(|k| library::band_line(input, k).ok()).peekable();
-        if lines.peek().is_none() {
-            return b"no such band\n".to_vec();
-        }
-        let listed = lines.map(|l| format!("{} {} {}\n", l.index, l.channel, l.hertz));
-        format!("index channel hz\n{}", listed.collect::<String>()).into_bytes()
+    fn band_line(&self, input: &[u8], k: usize) -> Answer {
+        told(3, |r| unsafe { raw::kusikhut_band_line(input.as_ptr(), input.len(), k, r) })
+    }
+
+    /// The program itself is run: no call for C has a chip reader.
+    fn words(&self, input: &[u8]) -> Vec<u8> {
+        let tool = concat!(env!("CARGO_MANIFEST_DIR"), "/../../../tools/program");
+        let started = Command::new(tool).arg("words").stdin(Stdio::piped()).stdout(Stdio::piped()).spawn();
+        let mut program = started.expect("tools/program runs");
+        // The program stops reading where refusal 10 is certain, so that the end of a long input may find nobody.
+        let _ = program.stdin.take().expect("it was piped").write_all(input);
+        let done = program.wait_with_output().expect("the program ends");
+        assert!(done.status.success(), "tools/program words failed: `rt check words` builds the program");
+        done.stdout
     }
 }

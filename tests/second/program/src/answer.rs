@@ -69,30 +69,33 @@ impl Refusal {
     }
 }
 
-/// An answer in plain numbers, the same form for every operation, so that two
-/// implementations can be compared field by field.
-///
-/// Accepted: `number` 0 and the operation's values in the order that the trait
-/// `Implementation` names. Refused: the number, and in `values[0]` the one
-/// value that the refusal returns. All other values are zero.
-#[derive(Clone, Copy, Debug, Default, PartialEq, Eq)]
+/// An answer in plain numbers, in the form in which a caller in C gets it
+/// (include/kusikhut.h): the number, and the call's row of results, whole. Two
+/// implementations agree when number and every field of the row agree.
+#[derive(Clone, Debug, PartialEq, Eq)]
 pub struct Answer {
     pub number: u64,
-    pub values: [u64; 8],
+    pub row: Vec<u64>,
 }
 
 impl Answer {
-    /// Number 0 with these values, the rest zero.
-    pub fn accepted(values: &[u64]) -> Answer {
-        let mut answer = Answer::default();
-        answer.values[..values.len()].copy_from_slice(values);
-        answer
+    /// Number 0 with this row.
+    pub fn accepted(row: &[u64]) -> Answer {
+        Answer {
+            number: 0,
+            row: row.to_vec(),
+        }
     }
 
-    /// The refusal's number and its one value.
-    pub fn refused(refusal: Refusal) -> Answer {
-        let mut answer = Answer::accepted(&[refusal.value()]);
-        answer.number = refusal.number();
-        answer
+    /// A refusal in a row of so many results: its one value at this place. All
+    /// others are zero, since 01 says that "nothing" means zeros, and that
+    /// result fields not named for a refusal are zero.
+    pub fn refused(refusal: Refusal, results: usize, place: usize) -> Answer {
+        let mut row = vec![0; results];
+        row[place] = refusal.value();
+        Answer {
+            number: refusal.number(),
+            row,
+        }
     }
 }

@@ -35,7 +35,8 @@ pub enum Operation {
     Filter,
     ChannelRow,
     ChannelCentre,
-    BandListing,
+    BandLine,
+    Words,
 }
 
 /// What an argument may be.
@@ -59,7 +60,8 @@ const SIZE: Shape = Shape::UpTo(usize::MAX as u64);
 const BYTES: Shape = Shape::Bytes;
 
 impl Operation {
-    pub const ALL: [Operation; 21] = [
+    /// The calls: what the library exports.
+    pub const CALLS: [Operation; 21] = [
         Operation::Decode,
         Operation::Encode,
         Operation::Word,
@@ -80,8 +82,42 @@ impl Operation {
         Operation::Filter,
         Operation::ChannelRow,
         Operation::ChannelCentre,
-        Operation::BandListing,
+        Operation::BandLine,
     ];
+
+    /// The calls, and the program that reads words with a chip reader.
+    pub fn all() -> impl Iterator<Item = Operation> {
+        Operation::CALLS.into_iter().chain([Operation::Words])
+    }
+
+    /// The answer numbers that it can give.
+    pub fn numbers(self) -> &'static [u64] {
+        match self {
+            Operation::Decode => &[0, 1, 4, 6, 10],
+            Operation::Encode => &[0, 4],
+            Operation::Word => &[0, 1, 6, 10],
+            Operation::Search => &[0, 7, 10, 14],
+            Operation::Check => &[0],
+            Operation::CheckUpdate => &[0, 10],
+            Operation::FrameRead => &[0, 1, 2, 3, 4],
+            Operation::FrameWrite => &[0, 4, 5],
+            Operation::FrameChange => &[0, 1, 2, 3, 9],
+            Operation::FrameSize => &[0, 2],
+            Operation::Receive => &[0, 1, 2, 3, 4, 6, 7, 8, 10, 14],
+            Operation::ReceiveManchester => &[0, 1, 2, 3, 4, 6, 10],
+            Operation::Send => &[0, 4, 5],
+            Operation::HeaderRead => &[0, 11, 12],
+            Operation::HeaderWrite => &[0, 4],
+            Operation::Access => &[0],
+            Operation::Letters => &[0],
+            Operation::Filter => &[0, 5, 10],
+            Operation::ChannelRow => &[0],
+            Operation::ChannelCentre => &[0, 13],
+            Operation::BandLine => &[0, 13],
+            // The refusals that end its readers; 0 where it names none.
+            Operation::Words => &[0, 1, 6, 10],
+        }
+    }
 
     pub fn name(self) -> &'static str {
         match self {
@@ -105,7 +141,8 @@ impl Operation {
             Operation::Filter => "filter",
             Operation::ChannelRow => "channel_row",
             Operation::ChannelCentre => "channel_centre",
-            Operation::BandListing => "band_listing",
+            Operation::BandLine => "band_line",
+            Operation::Words => "words",
         }
     }
 
@@ -121,7 +158,7 @@ impl Operation {
                 ("out", BYTES),
             ],
             Operation::Encode => &[("code", CODE), ("bytes", BYTES), ("out", BYTES)],
-            Operation::Word => &[("code", CODE), ("chips", BYTES), ("place", SIZE)],
+            Operation::Word => &[("code", CODE), ("chips", BYTES), ("at", SIZE)],
             Operation::Search => &[("chips", BYTES), ("start", SIZE), ("allowance", SIZE)],
             Operation::Check => &[("bytes", BYTES)],
             Operation::CheckUpdate => &[
@@ -167,7 +204,8 @@ impl Operation {
             ],
             Operation::ChannelRow => &[("index", SIZE)],
             Operation::ChannelCentre => &[("index", SIZE), ("channel", SIZE)],
-            Operation::BandListing => &[("input", BYTES)],
+            Operation::BandLine => &[("input", BYTES), ("k", SIZE)],
+            Operation::Words => &[("input", BYTES)],
         }
     }
 }
@@ -252,8 +290,7 @@ pub struct Case {
 #[derive(Clone, Debug, PartialEq, Eq)]
 pub struct Outcome {
     pub answer: Answer,
-    /// Every lent byte after the call. For `word` the reader's place, high byte
-    /// first; for `band_listing` the text.
+    /// Every lent byte after the call; for `words` the text that was printed.
     pub lent: Vec<u8>,
 }
 
@@ -280,8 +317,7 @@ impl Case {
     pub fn from_text(line: &str) -> Result<Case, String> {
         let mut parts = line.split_whitespace();
         let name = parts.next().ok_or("empty line")?;
-        let operation = Operation::ALL
-            .into_iter()
+        let operation = Operation::all()
             .find(|operation| operation.name() == name)
             .ok_or(format!("no operation {name}"))?;
         let mut arguments = Vec::new();
@@ -399,12 +435,7 @@ impl Case {
                 out,
             ),
             Operation::Encode => with.encode(self.code(), self.bytes("bytes"), out),
-            Operation::Word => {
-                let mut place = self.size("place");
-                let answer = with.word(self.code(), self.bytes("chips"), &mut place);
-                lent = (place as u64).to_be_bytes().to_vec();
-                answer
-            }
+            Operation::Word => with.word(self.code(), self.bytes("chips"), self.size("at")),
             Operation::Search => with.search(
                 self.bytes("chips"),
                 self.size("start"),
@@ -444,13 +475,25 @@ impl Case {
             Operation::ChannelCentre => {
                 with.channel_centre(self.size("index"), self.size("channel"))
             }
-            Operation::BandListing => {
-                lent = with.band_listing(self.bytes("input"));
-                Answer::accepted(&[])
+            Operation::BandLine => with.band_line(self.bytes("input"), self.size("k")),
+            Operation::Words => {
+                lent = with.words(self.bytes("input"));
+                Answer {
+                    number: last_number(&lent),
+                    row: Vec::new(),
+                }
             }
         };
         Outcome { answer, lent }
     }
+}
+
+/// The answer number that ends a text of `words`: the first one of its last
+/// line. A text without one counts as 0.
+fn last_number(text: &[u8]) -> u64 {
+    let text = String::from_utf8_lossy(text);
+    let first = text.lines().last().and_then(|line| line.split(' ').next());
+    first.and_then(|word| word.parse().ok()).unwrap_or(0)
 }
 
 impl fmt::Display for Case {
@@ -465,11 +508,7 @@ impl fmt::Display for Case {
 
 impl fmt::Display for Outcome {
     fn fmt(&self, f: &mut fmt::Formatter) -> fmt::Result {
-        write!(
-            f,
-            "number={} values={:?}",
-            self.answer.number, self.answer.values
-        )?;
+        write!(f, "number={} row={:?}", self.answer.number, self.answer.row)?;
         write!(f, " lent={}", hex(&self.lent))
     }
 }

@@ -168,24 +168,21 @@ pub fn encode(code: Code, bytes: &[u8], out: &mut [u8]) -> Result<usize, Refusal
     put(&packed(&encode_list(code, bytes)), out)
 }
 
-/// One code word for a chip reader. Order: 10 (the reader is not made), then
-/// 1, 6. Answers the word's value; the place moves only then.
-pub fn word(code: Code, chips: &[u8], place: &mut usize) -> Result<usize, Refusal> {
-    judge_received(chips, *place)?;
-    let list = list_of(chips);
-    let rest = &list[*place..];
-    if rest.len() < code.chips_in_a_word() {
+/// The code word at a chip. Order: 10, 1, 6. Answers the word's value.
+pub fn word(code: Code, chips: &[u8], at: usize) -> Result<usize, Refusal> {
+    judge_received(chips, at)?;
+    first_word(code, &list_of(chips)[at..])
+}
+
+/// The code word at the front of a list: refusals 1, then 6.
+pub fn first_word(code: Code, list: &[bool]) -> Result<usize, Refusal> {
+    if list.len() < code.chips_in_a_word() {
         return Err(Refusal::Ends);
     }
-    let chips = &rest[..code.chips_in_a_word()];
-    match code.value_of(number_of(chips)) {
-        Some(value) => {
-            *place += code.chips_in_a_word();
-            Ok(value)
-        }
-        // The reader's call has one word, so its place is always 0.
-        None => Err(Refusal::NotACodeWord { word: 0 }),
-    }
+    let chips = &list[..code.chips_in_a_word()];
+    // The call has one word, so its place among the call's words is always 0.
+    code.value_of(number_of(chips))
+        .ok_or(Refusal::NotACodeWord { word: 0 })
 }
 
 /// Puts a result at the front of a lent output; refusal 4 if it does not fit.

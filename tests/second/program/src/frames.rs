@@ -136,16 +136,17 @@ pub fn write(format: Format, content: &[u8], out: &mut [u8]) -> Result<usize, Re
 }
 
 /// Changing one byte of a finished frame. Order: the frame's 1, 2, 3, then 9.
-/// Answers the frame size.
+/// Answers the frame's sizes, as reading it does.
 ///
 /// What the frame must be afterwards is what the writer makes of the changed
 /// content; so the content is read, changed and written again. n stays, and
 /// with it L and the size.
-pub fn change(format: Format, frame: &mut [u8], place: usize, byte: u8) -> Result<usize, Refusal> {
-    let (mut content, _) = content_of(format, frame)?;
+pub fn change(format: Format, frame: &mut [u8], place: usize, byte: u8) -> Result<Sizes, Refusal> {
+    let (mut content, sizes) = content_of(format, frame)?;
     if place >= content.len() {
         return Err(Refusal::NoSuchPlace);
     }
     content[place] = byte;
-    write(format, &content, frame)
+    write(format, &content, frame)?;
+    Ok(sizes)
 }

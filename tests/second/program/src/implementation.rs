@@ -6,151 +6,179 @@ use crate::channels::{self, QUARTER};
 use crate::check;
 use crate::chips::{self, Code};
 use crate::filter::{self, Entries};
-use crate::frames::{self, Format};
+use crate::frames::{self, Format, Sizes};
 use crate::headers::{self, Header};
 use crate::radio::{self, Reception};
-use crate::sync::{self, Kind};
+use crate::reader;
+use crate::sync::{self, Found, Kind};
 
 /// An implementation of the link layer. Every method is total.
 ///
-/// "Values" are those of an accepted answer, in this order; those not named are
-/// zero. A refusal has its number and at most one value, in `values[0]`:
-/// 3 the block, 6 the word, 7 and 14 the positions tried, 8 the sync's place.
+/// An answer has the number and the row of results that include/kusikhut.h
+/// names for the call: "row" below is that of an accepted answer. The row of a
+/// refusal has as many fields, and all are zero but for the one value that some
+/// refusals carry, which stands where "refused" says.
 pub trait Implementation {
-    /// Refusals 10, 1, 6, 4. Values: bytes decoded.
+    /// Refusals 10, 1, 6, 4. Row: 0. Refused: 6 the word.
     fn decode(&self, code: Code, chips: &[u8], start: usize, n: usize, out: &mut [u8]) -> Answer;
 
-    /// Refusal 4. Values: bytes written.
+    /// Refusal 4. Row: bytes written.
     fn encode(&self, code: Code, bytes: &[u8], out: &mut [u8]) -> Answer;
 
-    /// One word for a chip reader made at `place`. Refusals 10 (not made), 1, 6.
-    /// Values: the word's value. `place` is the reader's: it moves behind the
-    /// word when accepted and stays at every refusal.
-    fn word(&self, code: Code, chips: &[u8], place: &mut usize) -> Answer;
+    /// The word at a chip. Refusals 10, 1, 6. Row: the word's value.
+    fn word(&self, code: Code, chips: &[u8], at: usize) -> Answer;
 
-    /// Refusals 10, then 7 or 14. Values: place, positions tried.
+    /// Refusals 10, then 7 or 14. Row: place, positions tried. Refused: 7 and 14
+    /// the positions tried, in their field.
     fn search(&self, chips: &[u8], start: usize, allowance: usize) -> Answer;
 
-    /// Values: the check.
+    /// Row: the check.
     fn check(&self, bytes: &[u8]) -> Answer;
 
-    /// Refusal 10. Values: the new check.
+    /// Refusal 10. Row: the new check.
     fn check_update(&self, old_check: u16, old_byte: u8, new_byte: u8, distance: usize) -> Answer;
 
-    /// Refusals 1, 2, 1, 3, 4. Values: frame size, n.
+    /// Refusals 1, 2, 1, 3, 4. Row: frame size, n, 0. Refused: 3 the block, in
+    /// the last field.
     fn frame_read(&self, format: Format, bytes: &[u8], out: &mut [u8]) -> Answer;
 
-    /// Refusals 5, 4. Values: frame size.
+    /// Refusals 5, 4. Row: frame size.
     fn frame_write(&self, format: Format, content: &[u8], out: &mut [u8]) -> Answer;
 
-    /// Refusals 1, 2, 1, 3, 9. Values: frame size.
+    /// Refusals 1, 2, 1, 3, 9. Row as for `frame_read`.
     fn frame_change(&self, format: Format, frame: &mut [u8], place: usize, byte: u8) -> Answer;
 
-    /// Refusal 2. Values: frame size.
+    /// Refusal 2. Row: frame size.
     fn frame_size(&self, format: Format, length: u8) -> Answer;
 
     /// Refusals 10; 7 or 14; 1, 8; 1, 6; 2; 1, 6; 3; 4.
-    /// Values: kind, place of the sync, positions tried, frame size, n.
+    /// Row: kind, place of the sync, positions tried, frame size, n, 0, 0.
+    /// Refused: 8 the place and 7, 14 the positions, in their fields; 3 the
+    /// block in the last but one, 6 the word in the last.
     fn receive(&self, chips: &[u8], start: usize, allowance: usize, out: &mut [u8]) -> Answer;
 
     /// Refusals 10; 1, 6; 2; 1, 6; 3; 4.
-    /// Values as for `receive`: kind, start, 0, frame size, n.
+    /// Row as for `receive`: kind, start, 0, frame size, n, 0, 0.
     fn receive_manchester(&self, chips: &[u8], start: usize, out: &mut [u8]) -> Answer;
 
-    /// Refusals 5, 4. Values: bytes written.
+    /// Refusals 5, 4. Row: bytes written.
     fn send(&self, kind: Kind, content: &[u8], out: &mut [u8]) -> Answer;
 
-    /// Refusals 12, 11, 12. Values: CI, length, CC, ACC, M2 (a number), A2 (its
-    /// six bytes, the first one highest), SN (a number), PayloadCRC (its two
-    /// bytes, the first one highest).
+    /// Refusals 12, 11, 12. Row: length, CI, CC, ACC, M2, the six bytes of A2,
+    /// SN, the two bytes of PayloadCRC.
     fn header_read(&self, body: &[u8]) -> Answer;
 
-    /// Refusal 4. Values: length.
+    /// Refusal 4. Row: length.
     fn header_write(&self, header: &Header, out: &mut [u8]) -> Answer;
 
-    /// Values: 0 none, 1 none for now, 2 limited, 3 unlimited.
+    /// Row: 0 none, 1 none for now, 2 limited, 3 unlimited.
     fn access(&self, cc: u8) -> Answer;
 
-    /// Values: 1 and the three letters in ASCII; all zero for "no letters".
+    /// Row: 1 and the three letters in ASCII; all zero for "no letters".
     fn letters(&self, m: u16) -> Answer;
 
-    /// Refusals 10, 5. Values: 1 wanted, 0 not.
+    /// Refusals 10, 5. Row: 1 wanted, 0 not.
     fn filter(&self, entries: &Entries, count: usize, content: &[u8]) -> Answer;
 
-    /// Refusal 13. Values: first centre, spacing, tolerance in quarter kHz.
+    /// Row: first centre, spacing, tolerance in quarter kHz; zeros where Table
+    /// 21 has no such row.
     fn channel_row(&self, index: usize) -> Answer;
 
-    /// Refusal 13. Values: centre in quarter kHz.
+    /// Refusal 13. Row: centre in quarter kHz.
     fn channel_centre(&self, index: usize, channel: usize) -> Answer;
 
-    /// What the band program prints for this standard input.
-    fn band_listing(&self, input: &[u8]) -> Vec<u8>;
+    /// Line `k`, from 0, of the list of the band that an input names. Refusal
+    /// 13. Row: index, channel, hertz.
+    fn band_line(&self, input: &[u8], k: usize) -> Answer;
+
+    /// What the program `words` prints for this standard input.
+    fn words(&self, input: &[u8]) -> Vec<u8>;
 }
 
 /// The second program.
 pub struct Second;
 
-/// An answer from a result and the values of its acceptance.
+/// An answer from a result, the row of its acceptance, and the field in which
+/// its refusals show their value.
 fn answer<T, const N: usize>(
     result: Result<T, Refusal>,
-    values: impl FnOnce(T) -> [u64; N],
+    row: impl FnOnce(T) -> [u64; N],
+    field: impl FnOnce(Refusal) -> usize,
 ) -> Answer {
     match result {
-        Ok(accepted) => Answer::accepted(&values(accepted)),
-        Err(refusal) => Answer::refused(refusal),
+        Ok(accepted) => Answer::accepted(&row(accepted)),
+        Err(refusal) => Answer::refused(refusal, N, field(refusal)),
     }
 }
 
-fn one_size(size: usize) -> [u64; 1] {
-    [size as u64]
+/// A row of one field: an accepted number, or the refusal's value.
+fn one(result: Result<usize, Refusal>) -> Answer {
+    answer(result, |number| [number as u64], |_| 0)
 }
 
-fn reception_values(reception: Reception) -> [u64; 5] {
-    [
-        reception.kind as u64,
-        reception.place as u64,
-        reception.tried as u64,
-        reception.sizes.frame as u64,
-        reception.sizes.content as u64,
-    ]
+/// Frame size, n, and the block of refusal 3.
+fn frame_row(result: Result<Sizes, Refusal>) -> Answer {
+    let accepted = |sizes: Sizes| [sizes.frame as u64, sizes.content as u64, 0];
+    answer(result, accepted, |_| 2)
 }
 
-fn header_values(header: Header) -> [u64; 8] {
-    [
-        header.kind.ci() as u64,
-        header.kind.length() as u64,
-        header.cc as u64,
-        header.acc as u64,
-        header.m2 as u64,
-        first_byte_highest(&header.a2),
-        header.sn as u64,
-        first_byte_highest(&header.payload_crc),
-    ]
+/// Kind, place, positions tried, frame size, n, block, word.
+fn reception_row(result: Result<Reception, Refusal>) -> Answer {
+    let accepted = |reception: Reception| {
+        [
+            reception.kind as u64,
+            reception.place as u64,
+            reception.tried as u64,
+            reception.sizes.frame as u64,
+            reception.sizes.content as u64,
+            0,
+            0,
+        ]
+    };
+    answer(result, accepted, |refusal| match refusal {
+        Refusal::UnknownTail { .. } => 1,
+        Refusal::NoSync { .. } | Refusal::AllowanceUsedUp { .. } => 2,
+        Refusal::WrongCheck { .. } => 5,
+        Refusal::NotACodeWord { .. } => 6,
+        // The others have no value to show.
+        _ => 0,
+    })
 }
 
-fn first_byte_highest(bytes: &[u8]) -> u64 {
-    bytes
-        .iter()
-        .fold(0, |number, &byte| 256 * number + byte as u64)
+fn header_row(header: Header) -> [u64; 14] {
+    let mut row = [0; 14];
+    row[0] = header.kind.length() as u64;
+    row[1] = header.kind.ci() as u64;
+    row[2] = header.cc as u64;
+    row[3] = header.acc as u64;
+    row[4] = header.m2 as u64;
+    for (field, byte) in row[5..11].iter_mut().zip(header.a2) {
+        *field = byte as u64;
+    }
+    row[11] = header.sn as u64;
+    row[12] = header.payload_crc[0] as u64;
+    row[13] = header.payload_crc[1] as u64;
+    row
 }
 
 impl Implementation for Second {
     fn decode(&self, code: Code, chips: &[u8], start: usize, n: usize, out: &mut [u8]) -> Answer {
-        answer(chips::decode(code, chips, start, n, out), one_size)
+        // The caller named n, so an accepted answer has nothing to add.
+        answer(chips::decode(code, chips, start, n, out), |_| [0], |_| 0)
     }
 
     fn encode(&self, code: Code, bytes: &[u8], out: &mut [u8]) -> Answer {
-        answer(chips::encode(code, bytes, out), one_size)
+        one(chips::encode(code, bytes, out))
     }
 
-    fn word(&self, code: Code, chips: &[u8], place: &mut usize) -> Answer {
-        answer(chips::word(code, chips, place), one_size)
+    fn word(&self, code: Code, chips: &[u8], at: usize) -> Answer {
+        one(chips::word(code, chips, at))
     }
 
     fn search(&self, chips: &[u8], start: usize, allowance: usize) -> Answer {
-        answer(sync::search(chips, start, allowance), |found| {
-            [found.place as u64, found.tried as u64]
-        })
+        let found = sync::search(chips, start, allowance);
+        let accepted = |found: Found| [found.place as u64, found.tried as u64];
+        answer(found, accepted, |_| 1)
     }
 
     fn check(&self, bytes: &[u8]) -> Answer {
@@ -158,54 +186,43 @@ impl Implementation for Second {
     }
 
     fn check_update(&self, old_check: u16, old_byte: u8, new_byte: u8, distance: usize) -> Answer {
-        answer(
-            check::update(old_check, old_byte, new_byte, distance),
-            |check| [check as u64],
-        )
+        one(check::update(old_check, old_byte, new_byte, distance).map(usize::from))
     }
 
     fn frame_read(&self, format: Format, bytes: &[u8], out: &mut [u8]) -> Answer {
-        answer(frames::read(format, bytes, out), |sizes| {
-            [sizes.frame as u64, sizes.content as u64]
-        })
+        frame_row(frames::read(format, bytes, out))
     }
 
     fn frame_write(&self, format: Format, content: &[u8], out: &mut [u8]) -> Answer {
-        answer(frames::write(format, content, out), one_size)
+        one(frames::write(format, content, out))
     }
 
     fn frame_change(&self, format: Format, frame: &mut [u8], place: usize, byte: u8) -> Answer {
-        answer(frames::change(format, frame, place, byte), one_size)
+        frame_row(frames::change(format, frame, place, byte))
     }
 
     fn frame_size(&self, format: Format, length: u8) -> Answer {
-        answer(format.sizes(length), |sizes| [sizes.frame as u64])
+        one(format.sizes(length).map(|sizes| sizes.frame))
     }
 
     fn receive(&self, chips: &[u8], start: usize, allowance: usize, out: &mut [u8]) -> Answer {
-        answer(
-            radio::receive(chips, start, allowance, out),
-            reception_values,
-        )
+        reception_row(radio::receive(chips, start, allowance, out))
     }
 
     fn receive_manchester(&self, chips: &[u8], start: usize, out: &mut [u8]) -> Answer {
-        answer(
-            radio::receive_manchester(chips, start, out),
-            reception_values,
-        )
+        reception_row(radio::receive_manchester(chips, start, out))
     }
 
     fn send(&self, kind: Kind, content: &[u8], out: &mut [u8]) -> Answer {
-        answer(radio::send(kind, content, out), one_size)
+        one(radio::send(kind, content, out))
     }
 
     fn header_read(&self, body: &[u8]) -> Answer {
-        answer(headers::read(body), header_values)
+        answer(headers::read(body), header_row, |_| 0)
     }
 
     fn header_write(&self, header: &Header, out: &mut [u8]) -> Answer {
-        answer(headers::write(header, out), one_size)
+        one(headers::write(header, out))
     }
 
     fn access(&self, cc: u8) -> Answer {
@@ -218,31 +235,31 @@ impl Implementation for Second {
                 Answer::accepted(&[1, letters[0] as u64, letters[1] as u64, letters[2] as u64])
             }
             // An answer of its own, not a refusal (01).
-            None => Answer::accepted(&[0]),
+            None => Answer::accepted(&[0; 4]),
         }
     }
 
     fn filter(&self, entries: &Entries, count: usize, content: &[u8]) -> Answer {
-        answer(filter::wanted(entries, count, content), |wanted| {
-            [wanted as u64]
-        })
+        one(filter::wanted(entries, count, content).map(usize::from))
     }
 
     fn channel_row(&self, index: usize) -> Answer {
-        answer(channels::row_of(index), |row| {
-            [
-                row.first / QUARTER,
-                row.spacing / QUARTER,
-                row.tolerance / QUARTER,
-            ]
-        })
+        // 01 asks for a centre by index and channel, and only there knows "no
+        // such channel". A row that is not there is nothing: zeros.
+        let row = channels::row_of(index).map(|row| [row.first, row.spacing, row.tolerance]);
+        Answer::accepted(&row.unwrap_or([0; 3]).map(|hertz| hertz / QUARTER))
     }
 
     fn channel_centre(&self, index: usize, channel: usize) -> Answer {
-        answer(channels::centre(index, channel), |hertz| [hertz / QUARTER])
+        let centre = channels::centre(index, channel);
+        answer(centre, |hertz| [hertz / QUARTER], |_| 0)
     }
 
-    fn band_listing(&self, input: &[u8]) -> Vec<u8> {
-        channels::band_listing(input).into_bytes()
+    fn band_line(&self, input: &[u8], k: usize) -> Answer {
+        answer(channels::band_line(input, k), |line| line, |_| 0)
+    }
+
+    fn words(&self, input: &[u8]) -> Vec<u8> {
+        reader::listing(input).into_bytes()
     }
 }

@@ -18,6 +18,7 @@ pub mod filter;
 pub mod frames;
 pub mod headers;
 pub mod radio;
+pub mod reader;
 pub mod sync;
 
 pub mod case;

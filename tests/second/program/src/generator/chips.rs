@@ -179,12 +179,101 @@ pub fn word(random: &mut Random) -> Vec<Argument> {
     let words = encoded * code.words_in_a_byte();
     let inside = place + random.below(words + 1) * code.chips_in_a_word();
     let last = (8 * chips.len()).saturating_sub(code.chips_in_a_word());
-    let place = match random.below(8) {
+    let at = match random.below(8) {
         0 => last,
         1 => last + 1,
         _ => start_near(random, inside, &chips),
     };
-    vec![number(code as u8), chips.into(), place.into()]
+    vec![number(code as u8), chips.into(), at.into()]
+}
+
+/// The letters of the program `words`: a reader for each word, or one reader.
+const WORDS_LETTERS: [(u8, Code); 6] = [
+    (b'N', Code::Nrz),
+    (b'M', Code::Manchester),
+    (b'T', Code::ThreeOfSix),
+    (b'n', Code::Nrz),
+    (b'm', Code::Manchester),
+    (b't', Code::ThreeOfSix),
+];
+
+/// An input of the program `words`: its letter, the start, the chips.
+fn words_input(letter: u8, start: usize, chips: &[u8]) -> Vec<u8> {
+    let mut input = vec![letter];
+    input.extend((start as u64).to_be_bytes());
+    input.extend(chips);
+    input
+}
+
+/// Encoded bytes in noise for the program `words`, read from their first word
+/// or from an edge.
+pub fn words(random: &mut Random) -> Vec<Argument> {
+    let (letter, code) = random.pick(&WORDS_LETTERS);
+    let (chips, place, _) = encoded_in_noise(random, code);
+    let start = start_near(random, place, &chips);
+    vec![words_input(letter, start, &chips).into()]
+}
+
+/// The edges of the program `words` and its chip reader.
+pub fn words_edges() -> Vec<Vec<u8>> {
+    let mut inputs = Vec::new();
+    for (letter, code) in WORDS_LETTERS {
+        let zeros = packed(&encode_list(code, &[0; 1024]));
+        let longest = &zeros[..LONGEST_RECEIVED];
+        let end = 8 * LONGEST_RECEIVED;
+        let word = code.chips_in_a_word();
+        // No chip at all; one byte, from its first chip to behind its end.
+        for (count, start) in [(0, 0), (0, 1), (1, 0), (1, 7), (1, 8), (1, 9)] {
+            inputs.push(words_input(letter, start, &zeros[..count]));
+        }
+        // The end of the longest buffer: the last word, one chip too late for
+        // it, the chip count, and above it; the last start would be chip 0 if
+        // only its lower bits counted.
+        for start in [
+            end - word,
+            end - word + 1,
+            end,
+            end + 1,
+            usize::MAX,
+            usize::MAX / 2 + 1,
+        ] {
+            inputs.push(words_input(letter, start, longest));
+        }
+        // A buffer that is too long, whatever its start.
+        let too_long = [longest, &[0x96]].concat();
+        for start in [0, end, end + 8, end + 9] {
+            inputs.push(words_input(letter, start, &too_long));
+        }
+        inputs.push(words_input(letter, 0, &[0x96; 3000]));
+    }
+    // Every word of the longest buffer.
+    for letter in [b'N', b'm', b'T'] {
+        let (_, code) = WORDS_LETTERS
+            .into_iter()
+            .find(|one| one.0 == letter)
+            .unwrap();
+        let zeros = packed(&encode_list(code, &[0; 1024]));
+        inputs.push(words_input(letter, 0, &zeros[..LONGEST_RECEIVED]));
+    }
+    // Words that are none, behind one that is: 6, and the place stays.
+    for (letter, code, words) in [
+        (b't', Code::ThreeOfSix, &[7, 21, 42, 56, 0, 63][..]),
+        (b'm', Code::Manchester, &[0b00, 0b11]),
+    ] {
+        for &word in words {
+            let mut list = encode_list(code, &[0x44]);
+            list.extend(list_of_number(word, code.chips_in_a_word()));
+            inputs.push(words_input(letter, 0, &packed(&list)));
+        }
+    }
+    // Inputs that name no reader.
+    inputs.extend([
+        vec![],
+        b"T".to_vec(),
+        b"TTTTTTTT".to_vec(),
+        words_input(b'X', 0, &[0x71]),
+    ]);
+    inputs
 }
 
 /// An allowance: all, none, or about as many positions as there are, or as are

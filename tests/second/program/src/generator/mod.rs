@@ -9,6 +9,7 @@ mod radio;
 
 use crate::case::{Argument, Case, Operation};
 use crate::frames::Format;
+use crate::implementation::Implementation;
 use crate::random::Random;
 
 /// Numbers whose product with 6, 8, 12 or 16, or whose sum with a small number,
@@ -26,7 +27,7 @@ const HUGE: [usize; 10] = [
     usize::MAX / 250 + 1,
 ];
 
-/// Cases without end, the operations in turn.
+/// Cases without end, the calls in turn.
 pub struct Cases {
     random: Random,
     turn: usize,
@@ -45,8 +46,8 @@ impl Iterator for Cases {
     type Item = Case;
 
     fn next(&mut self) -> Option<Case> {
-        let operation = Operation::ALL[self.turn];
-        self.turn = (self.turn + 1) % Operation::ALL.len();
+        let operation = Operation::CALLS[self.turn];
+        self.turn = (self.turn + 1) % Operation::CALLS.len();
         Some(case(&mut self.random, operation))
     }
 }
@@ -74,13 +75,18 @@ pub fn case(random: &mut Random, operation: Operation) -> Case {
         Operation::Filter => names::filter(random),
         Operation::ChannelRow => vec![names::index(random)],
         Operation::ChannelCentre => vec![names::index(random), names::channel(random)],
-        Operation::BandListing => vec![names::band_input(random).into()],
+        Operation::BandLine => vec![
+            names::band_input(random).into(),
+            names::band_place(random).into(),
+        ],
+        Operation::Words => chips::words(random),
     };
     Case::new(operation, arguments)
 }
 
 /// Every input of the operations that have few: access, letters, frame sizes,
-/// and all indices and channels a little beyond Table 21.
+/// all indices and channels a little beyond Table 21, and the lists of all bands
+/// a little beyond the longest, for every letter.
 pub fn small_inputs() -> Vec<Case> {
     let mut cases = Vec::new();
     for cc in 0..=0xFFu8 {
@@ -106,8 +112,44 @@ pub fn small_inputs() -> Vec<Case> {
     }
     for letter in 0..=0xFFu8 {
         for input in [vec![letter], vec![letter, b'\n']] {
-            cases.push(Case::new(Operation::BandListing, vec![input.into()]));
+            for k in 0..=60usize {
+                let arguments = vec![input.clone().into(), k.into()];
+                cases.push(Case::new(Operation::BandLine, arguments));
+            }
         }
+    }
+    cases
+}
+
+/// One case of a call for each answer number that it gives.
+pub fn one_of_each(
+    operation: Operation,
+    numbers: &[u64],
+    with: &dyn Implementation,
+) -> Vec<(u64, Case)> {
+    let mut random = Random::new(operation as u64 + 1);
+    let mut found = Vec::new();
+    for &number in numbers {
+        let right = |case: &Case| case.run(with).answer.number == number;
+        let mut cases = (0..10_000).map(|_| case(&mut random, operation));
+        let one = cases.find(right);
+        found.push((
+            number,
+            one.unwrap_or_else(|| panic!("{operation:?} never gave {number}")),
+        ));
+    }
+    found
+}
+
+/// Inputs of the program `words`: its edges, and `count` made from a seed.
+pub fn words_cases(seed: u64, count: usize) -> Vec<Case> {
+    let mut random = Random::new(seed);
+    let mut cases = Vec::new();
+    for input in chips::words_edges() {
+        cases.push(Case::new(Operation::Words, vec![input.into()]));
+    }
+    for _ in 0..count {
+        cases.push(case(&mut random, Operation::Words));
     }
     cases
 }

@@ -122,3 +122,13 @@ pub fn band_input(random: &mut Random) -> Vec<u8> {
         _ => vec![letter],
     }
 }
+
+/// A line's place in a list: about the last of each band's, or anywhere.
+pub fn band_place(random: &mut Random) -> usize {
+    match random.below(6) {
+        0 => random.pick(&[1, 2, 18, 19, 23, 24, 57, 58]),
+        1 => random.pick(&HUGE),
+        2 => random.below(60),
+        _ => random.below(20),
+    }
+}

@@ -1,5 +1,5 @@
-//! The order of the values behind the trait, for each operation, and that a
-//! refusal has its one value first and nothing besides.
+//! The fields of each call's row, and that a refusal shows its one value in its
+//! own field and zeros in all others.
 
 use super::{buffer, content};
 use crate::answer::{Answer, Refusal};
@@ -9,9 +9,9 @@ use crate::headers::{Header, HeaderKind};
 use crate::implementation::{Implementation, Second};
 use crate::sync::Kind;
 
-/// A number and its values, zeros left out at the end.
-fn is(answer: Answer, number: u64, values: &[u64]) {
-    let mut expected = Answer::accepted(values);
+/// A number and its whole row.
+fn is(answer: Answer, number: u64, row: &[u64]) {
+    let mut expected = Answer::accepted(row);
     expected.number = number;
     assert_eq!(answer, expected);
 }
@@ -35,7 +35,8 @@ fn refusals_have_their_numbers_and_values() {
         (Refusal::AllowanceUsedUp { tried: 5 }, 14, 5),
     ];
     for (refusal, number, value) in all {
-        is(Answer::refused(refusal), number, &[value]);
+        is(Answer::refused(refusal, 1, 0), number, &[value]);
+        is(Answer::refused(refusal, 3, 1), number, &[0, value, 0]);
     }
 }
 
@@ -45,28 +46,29 @@ fn line_codes_and_search() {
     is(
         Second.decode(Code::Manchester, &chips, 0, 1, &mut [0]),
         0,
-        &[1],
+        &[0],
     );
     is(
         Second.decode(Code::Manchester, &chips, 1, 1, &mut [0]),
         1,
-        &[],
+        &[0],
     );
-    is(Second.decode(Code::Nrz, &chips, 8, 1, &mut []), 4, &[]);
+    is(Second.decode(Code::Nrz, &chips, 8, 1, &mut []), 4, &[0]);
+    is(
+        Second.decode(Code::ThreeOfSix, &buffer("011100010101"), 0, 1, &mut [0]),
+        6,
+        &[1],
+    );
     is(
         Second.encode(Code::ThreeOfSix, &[0x44], &mut [0; 3]),
         0,
         &[2],
     );
-    is(
-        Second.word(Code::ThreeOfSix, &buffer("011100"), &mut 0),
-        0,
-        &[4],
-    );
+    is(Second.word(Code::ThreeOfSix, &buffer("011100"), 0), 0, &[4]);
     let sync = buffer("1110101010000111101");
     is(Second.search(&sync, 1, 9), 0, &[3, 3]);
-    is(Second.search(&sync, 4, 9), 7, &[5]);
-    is(Second.search(&sync, 4, 4), 14, &[4]);
+    is(Second.search(&sync, 4, 9), 7, &[0, 5]);
+    is(Second.search(&sync, 4, 4), 14, &[0, 4]);
 }
 
 #[test]
@@ -77,19 +79,36 @@ fn checks_and_frames() {
     is(
         Second.frame_read(Format::A, &frame, &mut [0; 26]),
         0,
-        &[33, 26],
+        &[33, 26, 0],
     );
     is(
         Second.frame_write(Format::A, &content(26), &mut [0; 33]),
         0,
         &[33],
     );
-    is(Second.frame_change(Format::A, &mut frame, 25, 1), 0, &[33]);
-    is(Second.frame_change(Format::A, &mut frame, 26, 1), 9, &[]);
+    is(
+        Second.frame_change(Format::A, &mut frame, 25, 1),
+        0,
+        &[33, 26, 0],
+    );
+    is(
+        Second.frame_change(Format::A, &mut frame, 26, 1),
+        9,
+        &[0; 3],
+    );
     is(Second.frame_size(Format::A, 26), 0, &[33]);
-    is(Second.frame_size(Format::B, 128), 2, &[]);
+    is(Second.frame_size(Format::B, 128), 2, &[0]);
     frame[32] ^= 1;
-    is(Second.frame_read(Format::A, &frame, &mut [0; 26]), 3, &[3]);
+    is(
+        Second.frame_read(Format::A, &frame, &mut [0; 26]),
+        3,
+        &[0, 0, 3],
+    );
+    is(
+        Second.frame_change(Format::A, &mut frame, 0, 0),
+        3,
+        &[0, 0, 3],
+    );
 }
 
 #[test]
@@ -101,13 +120,13 @@ fn receptions() {
         chips.extend(encode_list(kind.code(), &frame));
         let size = frame.len() as u64;
         let answer = Second.receive(&packed(&chips), 1, 99, &mut [0; 26]);
-        is(answer, 0, &[number, 4, 4, size, 26]);
+        is(answer, 0, &[number, 4, 4, size, 26, 0, 0]);
     }
     let frame = frame_of(Format::A, &content(26)).unwrap();
     let mut chips = vec![false; 5];
     chips.extend(encode_list(Code::Manchester, &frame));
     let answer = Second.receive_manchester(&packed(&chips), 5, &mut [0; 26]);
-    is(answer, 0, &[3, 5, 0, 33, 26]);
+    is(answer, 0, &[3, 5, 0, 33, 26, 0, 0]);
     is(
         Second.send(Kind::TWithA, &content(10), &mut [0; 30]),
         0,
@@ -130,6 +149,48 @@ fn receptions() {
     );
 }
 
+/// Seven fields; each refusal's value stands in its own.
+#[test]
+fn refused_receptions() {
+    let receive = |chips: &[u8], allowance| Second.receive(chips, 1, allowance, &mut [0; 26]);
+    is(receive(&[0; 4], 99), 7, &[0, 0, 16, 0, 0, 0, 0]);
+    is(receive(&[0; 4], 9), 14, &[0, 0, 9, 0, 0, 0, 0]);
+    is(receive(&[0; 1025], 9), 10, &[0; 7]);
+    let tail = buffer("00 0101010000111101 0101011111111111");
+    is(receive(&tail, 99), 8, &[0, 2, 0, 0, 0, 0, 0]);
+    is(receive(&tail[..4], 99), 1, &[0; 7]);
+    let good = frame_of(Format::A, &content(26)).unwrap();
+    let sent = |frame: &[u8]| -> Vec<bool> {
+        let mut chips = vec![false; 4];
+        chips.extend(Kind::TWithA.sync_chips());
+        chips.extend(encode_list(Code::ThreeOfSix, frame));
+        chips
+    };
+    let mut wrong = good.clone();
+    wrong[12] ^= 1;
+    is(
+        receive(&packed(&sent(&wrong)), 99),
+        3,
+        &[0, 0, 0, 0, 0, 2, 0],
+    );
+    let mut chips = sent(&good);
+    let place = 4 + 16 + 6 * 9;
+    chips[place] = !chips[place];
+    is(receive(&packed(&chips), 99), 6, &[0, 0, 0, 0, 0, 0, 9]);
+    is(
+        Second.receive(&packed(&sent(&good)), 1, 99, &mut [0; 25]),
+        4,
+        &[0; 7],
+    );
+    let mut chips = encode_list(Code::Manchester, &good);
+    chips[16] = chips[17];
+    is(
+        Second.receive_manchester(&packed(&chips), 0, &mut [0; 26]),
+        6,
+        &[0, 0, 0, 0, 0, 0, 8],
+    );
+}
+
 #[test]
 fn headers_and_names() {
     let body: Vec<u8> = [0x8F].into_iter().chain(1..17).collect();
@@ -137,17 +198,29 @@ fn headers_and_names() {
         Second.header_read(&body),
         0,
         &[
-            0x8F,
             17,
+            0x8F,
             1,
             2,
             0x0403,
-            0x0506_0708_090A,
+            5,
+            6,
+            7,
+            8,
+            9,
+            10,
             0x0E0D_0C0B,
-            0x0F10,
+            15,
+            16,
         ],
     );
-    is(Second.header_read(&[0x8C, 7, 8, 9]), 0, &[0x8C, 3, 7, 8]);
+    is(
+        Second.header_read(&[0x8C, 7, 8, 9]),
+        0,
+        &[3, 0x8C, 7, 8, 0, 0, 0, 0, 0, 0, 0, 0, 0, 0],
+    );
+    is(Second.header_read(&[0x8C, 7]), 12, &[0; 14]);
+    is(Second.header_read(&[0x86]), 11, &[0; 14]);
     let header = Header {
         kind: HeaderKind::Address,
         cc: 1,
@@ -162,17 +235,21 @@ fn headers_and_names() {
     assert_eq!(out, [0x8E, 1, 2, 0x43, 0x04, 3, 4, 5, 6, 7, 8, 0xEE]);
     is(Second.access(0x84), 0, &[3]);
     is(Second.letters(0x8443), 0, &[1, 0x41, 0x42, 0x43]);
-    is(Second.letters(0), 0, &[]);
+    is(Second.letters(0), 0, &[0; 4]);
     is(Second.filter(&[[0; 8]; 16], 1, &[0; 9]), 0, &[1]);
     is(Second.filter(&[[0; 8]; 16], 0, &[0; 9]), 0, &[0]);
+    is(Second.filter(&[[1; 8]; 16], 17, &[0; 9]), 10, &[0]);
 }
 
 #[test]
 fn channels() {
     is(Second.channel_row(13), 0, &[678_500, 200, 10]);
     is(Second.channel_row(7), 0, &[677_975, 50, 6]);
-    is(Second.channel_row(0), 13, &[]);
+    is(Second.channel_row(0), 0, &[0; 3]);
+    is(Second.channel_row(14), 0, &[0; 3]);
     is(Second.channel_centre(1, 5), 0, &[677_875]);
-    is(Second.channel_centre(1, 6), 13, &[]);
-    assert_eq!(Second.band_listing(b"a"), b"no such band\n");
+    is(Second.channel_centre(1, 6), 13, &[0]);
+    is(Second.band_line(b"B\n", 1), 0, &[6, 0, 169_481_250]);
+    is(Second.band_line(b"B\n", 2), 13, &[0; 3]);
+    is(Second.band_line(b"b", 0), 13, &[0; 3]);
 }

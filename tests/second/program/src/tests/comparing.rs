@@ -7,10 +7,10 @@ use crate::answer::Answer;
 use crate::case::{Case, Operation, Outcome};
 use crate::check;
 use crate::chips::{decode_list, list_of, number_of, Code, THREE_OF_SIX};
-use crate::compare::{compare, compare_small_inputs};
+use crate::compare::{compare, compare_cases, compare_outcomes, compare_small_inputs};
 use crate::filter::Entries;
 use crate::frames::Format;
-use crate::generator::{case, small_inputs, Cases};
+use crate::generator::{case, one_of_each, small_inputs, words_cases, Cases};
 use crate::headers::Header;
 use crate::implementation::{Implementation, Second};
 use crate::random::Random;
@@ -19,36 +19,12 @@ use crate::sync::{search, Kind, SYNC_CHIPS};
 const SEED: u64 = 20190;
 const COUNT: u64 = 21 * 1500;
 
-/// The answer numbers that each operation can give, and so must give here.
-const EXPECTED: [(Operation, &[u64]); 21] = [
-    (Operation::Decode, &[0, 1, 4, 6, 10]),
-    (Operation::Encode, &[0, 4]),
-    (Operation::Word, &[0, 1, 6, 10]),
-    (Operation::Search, &[0, 7, 10, 14]),
-    (Operation::Check, &[0]),
-    (Operation::CheckUpdate, &[0, 10]),
-    (Operation::FrameRead, &[0, 1, 2, 3, 4]),
-    (Operation::FrameWrite, &[0, 4, 5]),
-    (Operation::FrameChange, &[0, 1, 2, 3, 9]),
-    (Operation::FrameSize, &[0, 2]),
-    (Operation::Receive, &[0, 1, 2, 3, 4, 6, 7, 8, 10, 14]),
-    (Operation::ReceiveManchester, &[0, 1, 2, 3, 4, 6, 10]),
-    (Operation::Send, &[0, 4, 5]),
-    (Operation::HeaderRead, &[0, 11, 12]),
-    (Operation::HeaderWrite, &[0, 4]),
-    (Operation::Access, &[0]),
-    (Operation::Letters, &[0]),
-    (Operation::Filter, &[0, 5, 10]),
-    (Operation::ChannelRow, &[0, 13]),
-    (Operation::ChannelCentre, &[0, 13]),
-    (Operation::BandListing, &[0]),
-];
-
 #[test]
 fn second_program_agrees_with_itself_and_meets_every_number() {
     let stats = compare(&Second, &Second, SEED, COUNT).unwrap();
     assert_eq!(stats.total(), COUNT);
-    for (operation, numbers) in EXPECTED {
+    for operation in Operation::CALLS {
+        let numbers = operation.numbers();
         assert_eq!(stats.numbers(operation), numbers, "{operation:?}");
         for &number in numbers {
             assert!(
@@ -58,7 +34,7 @@ fn second_program_agrees_with_itself_and_meets_every_number() {
         }
     }
     let table = stats.to_string();
-    assert_eq!(table.lines().count(), 1 + Operation::ALL.len() + 1);
+    assert_eq!(table.lines().count(), 1 + Operation::CALLS.len() + 1);
     assert!(table.ends_with("31500 cases"));
 }
 
@@ -69,7 +45,8 @@ fn small_inputs_are_all_there() {
     assert_eq!(stats.count(Operation::Letters, 0), 65_536);
     assert_eq!(stats.count(Operation::FrameSize, 0), 246 + 242);
     assert_eq!(stats.count(Operation::ChannelCentre, 0), 103);
-    assert_eq!(stats.count(Operation::ChannelRow, 0), 13);
+    assert_eq!(stats.count(Operation::ChannelRow, 0), 21);
+    assert_eq!(stats.count(Operation::BandLine, 0), 2 * 103);
     assert_eq!(stats.total() as usize, small_inputs().len());
 }
 
@@ -133,28 +110,28 @@ fn outcomes(operation: Operation, count: usize) -> Vec<(Case, Outcome)> {
         .collect()
 }
 
-/// The different first values among outcomes with one answer number.
-fn first_values(outcomes: &[(Case, Outcome)], number: u64) -> BTreeSet<u64> {
+/// What stands in a field of the rows with one answer number.
+fn seen(outcomes: &[(Case, Outcome)], number: u64, field: usize) -> BTreeSet<u64> {
     outcomes
         .iter()
         .filter(|(_, outcome)| outcome.answer.number == number)
-        .map(|(_, outcome)| outcome.answer.values[0])
+        .map(|(_, outcome)| outcome.answer.row[field])
         .collect()
 }
 
 #[test]
 fn receptions_reach_every_kind_and_many_places() {
     let outcomes = outcomes(Operation::Receive, 4000);
-    let kinds = first_values(&outcomes, 0);
+    let kinds = seen(&outcomes, 0, 0);
     assert_eq!(kinds, BTreeSet::from([0, 1, 2]));
-    let blocks = first_values(&outcomes, 3);
+    let blocks = seen(&outcomes, 3, 5);
     assert!((1..=10).all(|block| blocks.contains(&block)), "{blocks:?}");
-    let words = first_values(&outcomes, 6);
+    let words = seen(&outcomes, 6, 6);
     assert!((0..4).all(|word| words.contains(&word)), "{words:?}");
     assert!(words.len() > 50, "{words:?}");
-    assert!(first_values(&outcomes, 8).len() > 20);
-    assert!(first_values(&outcomes, 7).contains(&0));
-    assert!(first_values(&outcomes, 14).contains(&0));
+    assert!(seen(&outcomes, 8, 1).len() > 20);
+    assert!(seen(&outcomes, 7, 2).contains(&0));
+    assert!(seen(&outcomes, 14, 2).contains(&0));
 }
 
 /// Every number of chips behind a first sync, from none to the first byte.
@@ -175,12 +152,12 @@ fn chips_end_everywhere_behind_a_sync() {
 #[test]
 fn frames_reach_every_block() {
     let outcomes = outcomes(Operation::FrameRead, 4000);
-    assert_eq!(first_values(&outcomes, 3), (1..=17).collect());
+    assert_eq!(seen(&outcomes, 3, 2), (1..=17).collect());
     let of_b = outcomes
         .into_iter()
         .filter(|(case, _)| case.number("format") == 1);
     assert_eq!(
-        first_values(&of_b.collect::<Vec<_>>(), 3),
+        seen(&of_b.collect::<Vec<_>>(), 3, 2),
         BTreeSet::from([1, 2])
     );
 }
@@ -203,32 +180,40 @@ fn edges_of_the_buffers_are_met() {
     let longest = outcomes(Operation::ReceiveManchester, 3000)
         .into_iter()
         .any(|(case, outcome)| {
-            let values = outcome.answer.values;
+            let row = outcome.answer.row;
             outcome.answer.number == 0
                 && case.bytes("chips").len() == 1024
-                && values[1] + 16 * values[3] == 8192
+                && row[1] + 16 * row[3] == 8192
         });
     assert!(longest);
 }
 
 #[test]
 fn edges_of_the_outputs_are_met() {
-    for (operation, result) in [
-        (Operation::Decode, 0),
-        (Operation::Encode, 0),
-        (Operation::FrameRead, 1),
-        (Operation::FrameWrite, 0),
-        (Operation::Receive, 4),
-        (Operation::ReceiveManchester, 4),
-        (Operation::Send, 0),
-        (Operation::HeaderWrite, 0),
+    // The field of the row that has the result's size; decoding has none, since
+    // the caller names it.
+    for (operation, field) in [
+        (Operation::Decode, None),
+        (Operation::Encode, Some(0)),
+        (Operation::FrameRead, Some(1)),
+        (Operation::FrameWrite, Some(0)),
+        (Operation::Receive, Some(4)),
+        (Operation::ReceiveManchester, Some(4)),
+        (Operation::Send, Some(0)),
+        (Operation::HeaderWrite, Some(0)),
     ] {
         let outcomes = outcomes(operation, 2000);
         // How much longer than its result an accepted output was.
         let spare: BTreeSet<u64> = outcomes
             .iter()
             .filter(|(_, outcome)| outcome.answer.number == 0)
-            .map(|(case, outcome)| case.bytes("out").len() as u64 - outcome.answer.values[result])
+            .map(|(case, outcome)| {
+                let size = match field {
+                    Some(field) => outcome.answer.row[field],
+                    None => case.number("n"),
+                };
+                case.bytes("out").len() as u64 - size
+            })
             .collect();
         assert!(spare.contains(&0) && spare.contains(&1), "{operation:?}");
         assert!(spare.iter().any(|&spare| spare > 8), "{operation:?}");
@@ -258,8 +243,8 @@ enum Flaw {
     TriedOneMore,
     /// 7 where 14 is due.
     NoAllowance,
-    /// The reader's place moves at refusal 6.
-    ReaderMoves,
+    /// Refusal 6 of one word shows which word of the buffer it was.
+    WordShown,
     /// An accepted read also clears the byte behind its result.
     WritesBehind,
     /// A refused read has already written.
@@ -306,6 +291,22 @@ enum Flaw {
     ManchesterTurned,
     /// A content of nine bytes accepted.
     ShorterContent,
+    /// The reader's place moves at refusal 6.
+    ReaderMoves,
+    /// The reader's place moves at refusal 1.
+    ReaderGoesToTheEnd,
+    /// A reader that is not made shows the start that it was given.
+    ReaderKeepsStart,
+    /// A reader that is not made, asked again, says that the chips end.
+    ReaderSaysShort,
+    /// A start at the chip count is refused.
+    ReaderRefusesTheEnd,
+    /// 1,025 bytes are read as 1,024.
+    ReaderTakesMore,
+    /// A start beyond 65,535 is cut to its lower bits.
+    ReaderStartIsCut,
+    /// Refusal 6 shows how many words came before.
+    ReaderWordCounted,
 }
 
 /// The second program with one flaw.
@@ -326,17 +327,17 @@ impl Implementation for Broken {
         let mut answer = Second.decode(code, chips, start, n, out);
         if self.has(Flaw::Words21And42) && code == Code::ThreeOfSix && answer.number == 6 {
             // As if the first wrong word were right when it has three ones.
-            let place = start + 6 * answer.values[0] as usize;
+            let place = start + 6 * answer.row[0] as usize;
             let word = number_of(&list_of(chips)[place..place + 6]);
             if word == 21 || word == 42 {
-                answer = Answer::accepted(&[n as u64]);
+                answer = Answer::accepted(&[0]);
             }
         }
         if self.has(Flaw::LongerBuffer) && chips.len() == 1025 && start <= 8200 {
             if let Ok(bytes) = decode_list(code, &list_of(chips)[start..], n) {
                 if bytes.len() <= out.len() {
                     out[..bytes.len()].copy_from_slice(&bytes);
-                    return Answer::accepted(&[n as u64]);
+                    return Answer::accepted(&[0]);
                 }
             }
         }
@@ -348,21 +349,21 @@ impl Implementation for Broken {
         let answer = Second.encode(code, bytes, out);
         let used = bytes.len() * code.chips_in_a_byte() % 8;
         if self.has(Flaw::UnusedChipsStay) && answer.number == 0 && used != 0 {
-            let last = answer.values[0] as usize - 1;
+            let last = answer.row[0] as usize - 1;
             out[last] |= before[last] & (0xFF >> used);
         }
         if self.has(Flaw::ManchesterTurned) && answer.number == 0 && code == Code::Manchester {
-            for byte in &mut out[..answer.values[0] as usize] {
+            for byte in &mut out[..answer.row[0] as usize] {
                 *byte = !*byte;
             }
         }
         answer
     }
 
-    fn word(&self, code: Code, chips: &[u8], place: &mut usize) -> Answer {
-        let answer = Second.word(code, chips, place);
-        if self.has(Flaw::ReaderMoves) && answer.number == 6 {
-            *place += code.chips_in_a_word();
+    fn word(&self, code: Code, chips: &[u8], at: usize) -> Answer {
+        let mut answer = Second.word(code, chips, at);
+        if self.has(Flaw::WordShown) && answer.number == 6 {
+            answer.row[0] = (at / code.chips_in_a_word()) as u64;
         }
         answer
     }
@@ -370,7 +371,7 @@ impl Implementation for Broken {
     fn search(&self, chips: &[u8], start: usize, allowance: usize) -> Answer {
         let mut answer = Second.search(chips, start, allowance);
         if self.has(Flaw::TriedOneMore) && answer.number == 0 {
-            answer.values[1] += 1;
+            answer.row[1] += 1;
         }
         if self.has(Flaw::NoAllowance) && answer.number == 14 {
             answer.number = 7;
@@ -404,15 +405,15 @@ impl Implementation for Broken {
     fn frame_read(&self, format: Format, bytes: &[u8], out: &mut [u8]) -> Answer {
         let mut answer = Second.frame_read(format, bytes, out);
         if self.has(Flaw::WritesBehind) && answer.number == 0 {
-            if let Some(behind) = out.get_mut(answer.values[1] as usize) {
+            if let Some(behind) = out.get_mut(answer.row[1] as usize) {
                 *behind = 0;
             }
         }
         if self.has(Flaw::WritesWhenRefused) && answer.number == 3 && !out.is_empty() {
             out[0] = bytes[1];
         }
-        if self.has(Flaw::BlockOffByOne) && answer.number == 3 && answer.values[0] > 1 {
-            answer.values[0] -= 1;
+        if self.has(Flaw::BlockOffByOne) && answer.number == 3 && answer.row[2] > 1 {
+            answer.row[2] -= 1;
         }
         answer
     }
@@ -451,15 +452,15 @@ impl Implementation for Broken {
     fn receive(&self, chips: &[u8], start: usize, allowance: usize, out: &mut [u8]) -> Answer {
         let mut answer = Second.receive(chips, start, allowance, out);
         if self.has(Flaw::ValueBesideRefusal) && answer.number == 8 {
-            answer.values[2] = answer.values[0] - start as u64 + 1;
+            answer.row[2] = answer.row[1] - start as u64 + 1;
         }
         answer
     }
 
     fn receive_manchester(&self, chips: &[u8], start: usize, out: &mut [u8]) -> Answer {
         let mut answer = Second.receive_manchester(chips, start, out);
-        if self.has(Flaw::WordsFromTheRest) && answer.number == 6 && answer.values[0] >= 8 {
-            answer.values[0] -= 8;
+        if self.has(Flaw::WordsFromTheRest) && answer.number == 6 && answer.row[6] >= 8 {
+            answer.row[6] -= 8;
         }
         answer
     }
@@ -475,7 +476,7 @@ impl Implementation for Broken {
     fn header_read(&self, body: &[u8]) -> Answer {
         let mut answer = Second.header_read(body);
         if self.has(Flaw::SnHighestFirst) {
-            answer.values[6] = (answer.values[6] as u32).swap_bytes() as u64;
+            answer.row[11] = (answer.row[11] as u32).swap_bytes() as u64;
         }
         answer
     }
@@ -491,14 +492,14 @@ impl Implementation for Broken {
     fn access(&self, cc: u8) -> Answer {
         let mut answer = Second.access(cc);
         if self.has(Flaw::AccessBits) {
-            answer.values[0] = [0, 2, 1, 3][answer.values[0] as usize];
+            answer.row[0] = [0, 2, 1, 3][answer.row[0] as usize];
         }
         answer
     }
 
     fn letters(&self, m: u16) -> Answer {
         if self.has(Flaw::LettersByThePage) && m >= 0x8000 {
-            return Answer::accepted(&[0]);
+            return Answer::accepted(&[0; 4]);
         }
         Second.letters(m)
     }
@@ -514,7 +515,7 @@ impl Implementation for Broken {
     fn channel_row(&self, index: usize) -> Answer {
         let mut answer = Second.channel_row(index);
         if self.has(Flaw::ToleranceOfRow7) && index == 7 {
-            answer.values[2] = 8;
+            answer.row[2] = 8;
         }
         answer
     }
@@ -526,12 +527,69 @@ impl Implementation for Broken {
         Second.channel_centre(index, channel)
     }
 
-    fn band_listing(&self, input: &[u8]) -> Vec<u8> {
+    fn band_line(&self, input: &[u8], k: usize) -> Answer {
         if self.has(Flaw::CarriageReturn) && input == b"A\r\n" {
-            return Second.band_listing(b"A");
+            return Second.band_line(b"A", k);
         }
-        Second.band_listing(input)
+        Second.band_line(input, k)
     }
+
+    fn words(&self, input: &[u8]) -> Vec<u8> {
+        let text = String::from_utf8(Second.words(input)).unwrap();
+        if input.len() < 9 || text == "no such reader\n" {
+            return text.into_bytes();
+        }
+        let start = u64::from_be_bytes(input[1..9].try_into().unwrap());
+        let chips = &input[9..];
+        let closed = "\n10 0 0\n";
+        let changed = match self.0 {
+            Flaw::ReaderMoves => with_last_place(&text, "6", 6),
+            Flaw::ReaderGoesToTheEnd => with_last_place(&text, "1", 1),
+            Flaw::ReaderKeepsStart => text.replace(closed, &format!("\n10 {start} 0\n")),
+            Flaw::ReaderSaysShort => text.replace("\n10 0 0\n10 0 0\n", "\n10 0 0\n1 0 0\n"),
+            Flaw::ReaderRefusesTheEnd if start == 8 * chips.len() as u64 => {
+                text.replace(&format!("\n1 {start} 0\n"), closed)
+            }
+            Flaw::ReaderTakesMore if chips.len() == 1025 => {
+                return Second.words(&input[..input.len() - 1]);
+            }
+            Flaw::ReaderStartIsCut => {
+                let cut = [&input[..1], &[0; 6], &input[7..]].concat();
+                return Second.words(&cut);
+            }
+            Flaw::ReaderWordCounted => {
+                let words = text.matches("\n0 ").count();
+                with_last_value(&text, "6", words)
+            }
+            _ => text,
+        };
+        changed.into_bytes()
+    }
+}
+
+/// The last lines that begin with a number, their place moved on.
+fn with_last_place(text: &str, number: &str, on: usize) -> String {
+    lines_with(text, number, |place, value| (place + on, value))
+}
+
+/// The last lines that begin with a number, with another value.
+fn with_last_value(text: &str, number: &str, value: usize) -> String {
+    lines_with(text, number, |place, _| (place, value))
+}
+
+/// A text of `words`, with other places and values in the lines of a number.
+fn lines_with(text: &str, number: &str, other: impl Fn(usize, usize) -> (usize, usize)) -> String {
+    let mut changed = String::new();
+    for line in text.lines() {
+        match line.split(' ').collect::<Vec<_>>()[..] {
+            [first, place, value] if first == number => {
+                let (place, value) = other(place.parse().unwrap(), value.parse().unwrap());
+                changed.push_str(&format!("{number} {place} {value}\n"));
+            }
+            _ => changed.push_str(&format!("{line}\n")),
+        }
+    }
+    changed
 }
 
 /// Every flaw, and the operation in which it must show.
@@ -542,7 +600,7 @@ const FLAWS: [(Flaw, Operation); 30] = [
     (Flaw::DistanceFromStart, Operation::CheckUpdate),
     (Flaw::TriedOneMore, Operation::Search),
     (Flaw::NoAllowance, Operation::Search),
-    (Flaw::ReaderMoves, Operation::Word),
+    (Flaw::WordShown, Operation::Word),
     (Flaw::WritesBehind, Operation::FrameRead),
     (Flaw::WritesWhenRefused, Operation::FrameRead),
     (Flaw::ChangesFirstBlockOnly, Operation::FrameChange),
@@ -558,7 +616,7 @@ const FLAWS: [(Flaw, Operation); 30] = [
     (Flaw::EntryBehindTheCount, Operation::Filter),
     (Flaw::ToleranceOfRow7, Operation::ChannelRow),
     (Flaw::ChannelTooMany, Operation::ChannelCentre),
-    (Flaw::CarriageReturn, Operation::BandListing),
+    (Flaw::CarriageReturn, Operation::BandLine),
     (Flaw::EmptyLastBlock, Operation::FrameSize),
     (Flaw::AccessBits, Operation::Access),
     (Flaw::Distance126, Operation::CheckUpdate),
@@ -584,6 +642,51 @@ fn every_flaw_is_found() {
     }
 }
 
+/// Every flaw of a chip reader, on the cases that the real one is run on.
+#[test]
+fn every_flaw_of_the_reader_is_found() {
+    let flaws = [
+        Flaw::ReaderMoves,
+        Flaw::ReaderGoesToTheEnd,
+        Flaw::ReaderKeepsStart,
+        Flaw::ReaderSaysShort,
+        Flaw::ReaderRefusesTheEnd,
+        Flaw::ReaderTakesMore,
+        Flaw::ReaderStartIsCut,
+        Flaw::ReaderWordCounted,
+    ];
+    let cases = || words_cases(SEED, 100);
+    let stats = compare_cases(&Second, &Broken(Flaw::None), cases()).unwrap();
+    assert_eq!(stats.numbers(Operation::Words), [0, 1, 6, 10]);
+    for flaw in flaws {
+        let found = compare_cases(&Second, &Broken(flaw), cases());
+        assert!(found.is_err(), "{flaw:?} was not found");
+    }
+}
+
+/// One wrong number in any field of any row is found, beside every answer
+/// number that the call gives: the fields that a refusal leaves zero as well.
+#[test]
+fn every_field_of_every_row_is_compared() {
+    let mut fields = 0;
+    for operation in Operation::CALLS {
+        for (number, case) in one_of_each(operation, operation.numbers(), &Second) {
+            for field in 0..case.run(&Second).answer.row.len() {
+                let planted = |case: &Case| {
+                    let mut outcome = case.run(&Second);
+                    outcome.answer.row[field] += 1;
+                    outcome
+                };
+                let found = compare_outcomes(|case| case.run(&Second), planted, [case.clone()]);
+                let difference = found.expect_err(&format!("{operation:?} {number} {field}"));
+                assert_eq!(difference.first.answer.number, number);
+                fields += 1;
+            }
+        }
+    }
+    assert_eq!(fields, 242);
+}
+
 #[test]
 fn every_three_of_six_word_is_met() {
     // All sixteen code words, and the four others that have three ones.
@@ -593,8 +696,8 @@ fn every_three_of_six_word_is_met() {
         if case.number("code") != 2 || ![0, 6].contains(&outcome.answer.number) {
             continue;
         }
-        let place = case.number("place") as usize;
-        let word = number_of(&list_of(case.bytes("chips"))[place..place + 6]);
+        let at = case.number("at") as usize;
+        let word = number_of(&list_of(case.bytes("chips"))[at..at + 6]);
         if outcome.answer.number == 0 {
             known.insert(word);
         } else {

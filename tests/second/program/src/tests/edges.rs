@@ -2,7 +2,7 @@
 
 use super::{content, list};
 use crate::answer::Refusal;
-use crate::channels::{band_listing, centre, quarters, row_of, TABLE_21};
+use crate::channels::{band_line, band_listing, centre, quarters, row_of, TABLE_21};
 use crate::check::{check, update};
 use crate::chips::{encode_list, packed, Code, THREE_OF_SIX};
 use crate::frames::{frame_of, read, write, Format, Sizes};
@@ -278,8 +278,8 @@ fn channels_of_mode_n() {
     assert_eq!(centre(12, 18), Err(Refusal::NoSuchChannel));
     assert_eq!(centre(13, 3), Ok(169_775_000));
     assert_eq!(centre(13, 4), Err(Refusal::NoSuchChannel));
-    assert!(row_of(0).is_err() && row_of(1).is_ok());
-    assert!(row_of(13).is_ok() && row_of(14).is_err());
+    assert!(row_of(0).is_none() && row_of(1).is_some());
+    assert!(row_of(13).is_some() && row_of(14).is_none());
     assert_eq!(centre(usize::MAX, usize::MAX), Err(Refusal::NoSuchChannel));
 }
 
@@ -338,6 +338,7 @@ fn quarter_kilohertz_are_never_rounded() {
     assert_eq!(quarters(0.0), Some(0));
     assert_eq!(quarters(169406.26), None);
     assert_eq!(quarters(-0.25), None);
+    assert_eq!(quarters(-0.0), None);
     assert_eq!(quarters(f64::NAN), None);
     assert_eq!(quarters(f64::INFINITY), None);
 }
@@ -357,5 +358,24 @@ fn band_listings() {
     ];
     for input in others {
         assert_eq!(band_listing(input), "no such band\n");
+        assert_eq!(band_line(input, 0), Err(Refusal::NoSuchChannel));
+    }
+    assert_eq!(band_line(b"D\n", 57), Ok([13, 3, 169_775_000]));
+    assert_eq!(band_line(b"D\n", 58), Err(Refusal::NoSuchChannel));
+}
+
+/// A third source: the lists of tests/bands, which a script works out from the
+/// table in megahertz, and which the band program is run against.
+#[test]
+fn band_listings_are_those_of_the_script() {
+    let lists = [
+        ("A", include_str!("../../../../bands/A.txt")),
+        ("B", include_str!("../../../../bands/B.txt")),
+        ("C", include_str!("../../../../bands/C.txt")),
+        ("D", include_str!("../../../../bands/D.txt")),
+        ("E", include_str!("../../../../bands/none.txt")),
+    ];
+    for (input, list) in lists {
+        assert_eq!(band_listing(input.as_bytes()), list);
     }
 }

@@ -8,6 +8,7 @@ use crate::filter::wanted;
 use crate::frames::{change, frame_of, read, write, Format, Sizes};
 use crate::headers::{self, Header, HeaderKind};
 use crate::radio::{receive, receive_manchester, send};
+use crate::reader::{listing, Reader};
 use crate::sync::{search, Found, Kind};
 
 /// Runs something on lent memory that must refuse, and looks whether the memory
@@ -114,37 +115,74 @@ fn encoding_refuses_4_and_sets_unused_chips_to_0() {
 }
 
 #[test]
-fn chip_reader_takes_one_word() {
+fn one_word_at_a_chip() {
     let chips = buffer("011100 01 10 11 00000000");
-    let mut place = 0;
-    assert_eq!(word(Code::ThreeOfSix, &chips, &mut place), Ok(4));
-    assert_eq!(word(Code::Manchester, &chips, &mut place), Ok(1));
-    assert_eq!(word(Code::Manchester, &chips, &mut place), Ok(0));
-    assert_eq!(place, 10);
+    assert_eq!(word(Code::ThreeOfSix, &chips, 0), Ok(4));
+    assert_eq!(word(Code::Manchester, &chips, 6), Ok(1));
+    assert_eq!(word(Code::Manchester, &chips, 8), Ok(0));
     let wrong = Err(Refusal::NotACodeWord { word: 0 });
-    assert_eq!(word(Code::Manchester, &chips, &mut place), wrong);
-    assert_eq!(place, 10);
-    assert_eq!(word(Code::Nrz, &chips, &mut place), Ok(0b11000000));
-    assert_eq!(place, 18);
+    assert_eq!(word(Code::Manchester, &chips, 10), wrong);
+    assert_eq!(word(Code::Nrz, &chips, 10), Ok(0b11000000));
     // 24 chips: six are left, which is enough for six and not for eight.
-    assert_eq!(word(Code::Nrz, &chips, &mut place), Err(Refusal::Ends));
-    assert_eq!(word(Code::ThreeOfSix, &chips, &mut place), wrong);
-    assert_eq!(place, 18);
+    assert_eq!(word(Code::Nrz, &chips, 18), Err(Refusal::Ends));
+    assert_eq!(word(Code::ThreeOfSix, &chips, 18), wrong);
+    assert_eq!(word(Code::Nrz, &[0], 8), Err(Refusal::Ends));
+    assert_eq!(word(Code::Nrz, &[0], 9), Err(Refusal::OutOfRange));
+    assert_eq!(word(Code::Nrz, &[0; 1025], 0), Err(Refusal::OutOfRange));
+    assert_eq!(word(Code::Nrz, &[0; 1024], 0), Ok(0));
+}
+
+#[test]
+fn chip_reader_keeps_its_place() {
+    let chips = buffer("011100 01 10 11 00000000");
+    let mut reader = Reader::new(&chips, 0);
+    assert_eq!(reader.next(Code::ThreeOfSix), Ok(4));
+    assert_eq!(reader.next(Code::Manchester), Ok(1));
+    assert_eq!(reader.next(Code::Manchester), Ok(0));
+    assert_eq!(reader.place(), 10);
+    let wrong = Err(Refusal::NotACodeWord { word: 0 });
+    assert_eq!(reader.next(Code::Manchester), wrong);
+    assert_eq!(reader.place(), 10);
+    assert_eq!(reader.next(Code::Nrz), Ok(0b11000000));
+    assert_eq!(reader.place(), 18);
+    assert_eq!(reader.next(Code::Nrz), Err(Refusal::Ends));
+    assert_eq!(reader.next(Code::ThreeOfSix), wrong);
+    assert_eq!(reader.place(), 18);
 }
 
 #[test]
 fn chip_reader_is_not_made() {
-    let mut place = 9;
-    assert_eq!(word(Code::Nrz, &[0], &mut place), Err(Refusal::OutOfRange));
-    assert_eq!(place, 9);
-    let mut place = 8;
-    assert_eq!(word(Code::Nrz, &[0], &mut place), Err(Refusal::Ends));
-    let mut place = 0;
-    assert_eq!(
-        word(Code::Nrz, &[0; 1025], &mut place),
-        Err(Refusal::OutOfRange)
-    );
-    assert_eq!(word(Code::Nrz, &[0; 1024], &mut place), Ok(0));
+    for (chips, start) in [(&[0; 1][..], 9), (&[0; 1025], 0), (&[0; 1025], 7)] {
+        let mut reader = Reader::new(chips, start);
+        for _ in 0..2 {
+            assert_eq!(reader.place(), 0);
+            assert_eq!(reader.next(Code::Nrz), Err(Refusal::OutOfRange));
+        }
+    }
+    // At the chip count it is made, and there is no word.
+    let mut reader = Reader::new(&[0], 8);
+    assert_eq!(reader.next(Code::Nrz), Err(Refusal::Ends));
+    assert_eq!(reader.place(), 8);
+}
+
+#[test]
+fn what_the_words_program_prints() {
+    let text = |input: &[u8]| listing(input);
+    // 44h in three-of-six, then 21, which is no code word (error 2).
+    let chips = b"\0\0\0\0\0\0\0\0\x71\xC5\x40";
+    let words = "number place value\n0 6 4\n0 12 4\n6 12 0\n";
+    assert_eq!(text(&[b"T", &chips[..]].concat()), words);
+    let again = format!("{words}6 12 0\n");
+    assert_eq!(text(&[b"t", &chips[..]].concat()), again);
+    // A start above the chip count: refused when made, and at place 0.
+    let start = b"\0\0\0\0\0\0\0\x09\x71";
+    let refused = "number place value\n10 0 0\n";
+    assert_eq!(text(&[b"M", &start[..]].concat()), refused);
+    let again = format!("{refused}10 0 0\n");
+    assert_eq!(text(&[b"m", &start[..]].concat()), again);
+    for input in [&b""[..], b"T", b"TTTTTTTT", b"X\0\0\0\0\0\0\0\0\x71"] {
+        assert_eq!(text(input), "no such reader\n");
+    }
 }
 
 // --------------------------------------------------------------------- search
@@ -284,7 +322,11 @@ fn changing_every_place_is_writing_again() {
                 let mut frame = frame_of(format, &content(n)).unwrap();
                 let size = frame.len();
                 frame.push(0xEE);
-                assert_eq!(change(format, &mut frame, place, wished[place]), Ok(size));
+                let sizes = Sizes {
+                    frame: size,
+                    content: n,
+                };
+                assert_eq!(change(format, &mut frame, place, wished[place]), Ok(sizes));
                 assert_eq!(frame[..size], frame_of(format, &wished).unwrap()[..]);
                 assert_eq!(frame[size], 0xEE);
             }
@@ -310,7 +352,7 @@ fn changing_refuses_in_order() {
     wrong[14] ^= 1;
     assert_eq!(go(&wrong, 10), Refusal::WrongCheck { block: 2 });
     let mut same = frame.clone();
-    assert_eq!(change(Format::A, &mut same, 9, content(10)[9]), Ok(15));
+    assert!(change(Format::A, &mut same, 9, content(10)[9]).is_ok());
     assert_eq!(same, frame);
 }
 

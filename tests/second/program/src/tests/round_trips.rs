@@ -2,11 +2,12 @@
 
 use crate::answer::Refusal;
 use crate::check::{check, update};
-use crate::chips::{decode, encode, encode_list, packed, word, Code};
+use crate::chips::{decode, encode, encode_list, packed, Code};
 use crate::frames::{content_of, frame_of, read, write, Format};
 use crate::headers::{self, Header, HeaderKind};
 use crate::radio::{receive, receive_manchester, send};
 use crate::random::Random;
+use crate::reader::Reader;
 use crate::sync::{search, Kind, SYNC_CHIPS};
 
 fn any_content(random: &mut Random, format: Format) -> Vec<u8> {
@@ -67,17 +68,17 @@ fn chip_reader_agrees_with_decoding() {
             chips[place] = !chips[place];
         }
         let chips = packed(&chips);
-        let mut place = 0;
+        let mut reader = Reader::new(&chips, 0);
         let mut words = 0;
         let mut stopped = Ok(length);
         while words < length * code.words_in_a_byte() {
-            if word(code, &chips, &mut place).is_err() {
+            if reader.next(code).is_err() {
                 stopped = Err(Refusal::NotACodeWord { word: words });
                 break;
             }
             words += 1;
         }
-        assert_eq!(place, words * code.chips_in_a_word());
+        assert_eq!(reader.place(), words * code.chips_in_a_word());
         assert_eq!(
             decode(code, &chips, 0, length, &mut vec![0; length]),
             stopped

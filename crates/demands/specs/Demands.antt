@@ -1,0 +1,381 @@
+-- The page of demands: each demand of the customer as one statement over the definitions. The proofs stand in
+-- proofs/Demands, one for each record.
+--
+-- How to read it: each public function is proved to answer what its definition in a crate's specs/ says, for every
+-- input, and no entry point asks anything of its caller. In demand 1, above a field, behind `by`, stand the functions
+-- whose contract is an equation with the definition that the field speaks of; for those that C calls, with that
+-- definition told as a number and a row (kusikhut/specs/Told, Calls). In the crate `entry` calls stand under the page's
+-- own words. The definitions are functions of all lists and numbers, so every input has one answer, and what is said
+-- of a definition here holds of every run of the function; docs/SETTLED.md says what that rests on.
+use mathlib.Core.Bool.{false, cond}
+use mathlib.Core.List.{List, [], _∷_, _++_, map}
+use mathlib.Core.Logic.{_↔_, _⊎_}
+use mathlib.Core.Path.{_≡_}
+use Prim.Native.Nat.{ℕ, _+_, _-_, _*_, _/_, _%_, _≤_, _<_}
+use denote.Ref.{RefT, now}
+use lib.Dec.{ltb}
+use lib.Ieee.Exact.{HasValue}
+use lib.ListN.{length, getD, take, drop, replicate}
+use Rattle.answers.specs.declared.Refusal.{Refusal}
+use Rattle.answers.specs.declared.Written.{Written}
+use Rattle.answers.specs.Outcome.{Outcome}
+use Rattle.answers.specs.Refusals.{numberOf, valueOf}
+use Rattle.ground.specs.Bytes.{Bytes}
+use Rattle.chips.specs.Chips.{chipAt, roomLimit}
+use Rattle.chips.specs.Packing.{tabulate}
+use Rattle.line.specs.declared.codes.Code.{Code}
+use Rattle.line.specs.declared.decoding.Decoded.{Decoded}
+use Rattle.line.specs.declared.words.Word.{Word}
+use Rattle.line.specs.Codes.{codeOf, chipsIn}
+use Rattle.line.specs.Decoding.{decoded}
+use Rattle.line.specs.Encoding.{encoded, encodedSize}
+use Rattle.line.specs.OneWord.{wordRead}
+use Rattle.chipreader.specs.declared.Answer.{Answer}
+use Rattle.chipreader.specs.declared.Place.{Place}
+use Rattle.chipreader.specs.declared.ChipReader.{ChipReader}
+use Rattle.chipreader.specs.Steps.{startOf, stepOf, readerAt, readerAfter}
+use Rattle.sync.specs.declared.Kind.{Kind}
+use Rattle.sync.specs.declared.Sync.{Sync}
+use Rattle.sync.specs.declared.Tail.{Tail}
+use Rattle.sync.specs.SyncSearch.{searchOf}
+use Rattle.sync.specs.Tails.{tailOf}
+use Rattle.crc.specs.Check.{checkOf}
+use Rattle.crc.specs.declared.Updated.{Updated}
+use Rattle.crc.specs.CheckUpdate.{updating, Mends}
+use Rattle.frame.specs.declared.Format.{Format}
+use Rattle.frame.specs.declared.Frame.{Frame}
+use Rattle.frame.specs.Formats.{formOf, frameSize, sizeFor}
+use Rattle.frame.specs.Judging.{judgeOf}
+use Rattle.frame.specs.Reads.{readingOf, Handed}
+use Rattle.frame.specs.Writes.{writingOf}
+use Rattle.frame.specs.Changes.{changingOf, Edit, changing, answersOf, edited, lastAt, placeOf, checkPlaceOf}
+use Rattle.radio.specs.declared.Reception.{Reception}
+use Rattle.radio.specs.KindParts.{formatOf}
+use Rattle.radio.specs.Receiving.{receptionOf, manchesterOf}
+use Rattle.radio.specs.Sending.{sendingOf, airSize, sentChips}
+use Rattle.radio.specs.Heard.{searched, receivingOf, firstTry, Heard, heardOf}
+use Rattle.header.specs.declared.layout.Header.{Header}
+use Rattle.header.specs.declared.reading.HeaderReading.{HeaderReading}
+use Rattle.header.specs.AccessBits.{accessOf, accessRow}
+use Rattle.header.specs.Layout.{headerLength}
+use Rattle.header.specs.HeaderReads.{fieldsOf, trimmed, headerReadingOf}
+use Rattle.header.specs.HeaderWrites.{headerWritingOf}
+use Rattle.address.specs.declared.Maker.{Maker}
+use Rattle.address.specs.Letters.{lettersOf}
+use Rattle.filter.specs.declared.Verdict.{Verdict}
+use Rattle.filter.specs.Listed.{verdictOf}
+use Rattle.channels.specs.declared.listing.Band.{Band}
+use Rattle.channels.specs.declared.listing.Line.{Line}
+use Rattle.channels.specs.declared.plan.Centre.{Centre}
+use Rattle.channels.specs.Table21.{entryOf, channelsOf, quartersOf}
+use Rattle.channels.specs.Plan.{float, rowOf, centreOf}
+use Rattle.channels.specs.Listing.{bandOf, rowsOf, linesFrom, linesOf, lineAt}
+use Rattle.kusikhut.specs.Told.{Told, told, tells, toldUpdated, toldDecoded, toldWord, toldWritten, toldSize, toldFrame, toldSync, toldHeader, toldMaker, toldVerdict, toldLine, toldCentre, toldReception, kindNumber}
+use Rattle.demands.specs.Rules.{Judged, JudgedLent}
+use Rattle.demands.specs.Cases.{Spells}
+use Rattle.demands.specs.Ladders as rule
+use Rattle.demands.specs.Touched.{Touched}
+
+-- Demand 1. Every call answers, whatever it is given, even an empty buffer. Bad input is refused with a number, always
+-- the first that applies: each number is given exactly in its case, with its value, and a refused call changes no byte
+-- of the buffer that it was lent for its output. What a call answers otherwise is said too. The ladders say in which
+-- order the cases are judged (specs/Ladders), and specs/Cases what each case means.
+--
+-- Chips: line codes, chip reader, search.
+pub record ChipNumbers : Type 0 where
+  -- by line::decode, kusikhut_decode_nrz, kusikhut_decode_three_of_six, kusikhut_decode_manchester
+  pub decoding :
+      (code : Code) (s : List ℕ) (start n : ℕ) (d : List ℕ)
+      → JudgedLent Decoded.Refused d (rule.decodeRule (codeOf code) s start n d) (decoded (codeOf code) s start n d)
+  -- by line::encode, kusikhut_encode_nrz, kusikhut_encode_three_of_six, kusikhut_encode_manchester
+  pub encoding :
+      (code : Code) (s d : List ℕ)
+      → JudgedLent Written.Refused d (rule.encodeRule (codeOf code) s d) (encoded (codeOf code) s d)
+  -- by line::word_at, kusikhut_word_nrz, kusikhut_word_three_of_six, kusikhut_word_manchester
+  pub one-word :
+      (code : Code) (s : List ℕ) (at : ℕ)
+      → Judged Word.Refused (rule.wordRule (codeOf code) s at) (wordRead (codeOf code) s at)
+  -- by chipreader::start
+  pub making-a-reader :
+      (s : List ℕ) (at : ℕ)
+      → Judged (λ r. record { at = 0; answer = Answer.Refused r }) (rule.readerRule s at) (startOf s at)
+  -- by chipreader::step, chipreader::first
+  pub reading-a-word :
+      (code : Code) (s : List ℕ) (p : Place)
+      → Judged (λ r. record { at = p .at; answer = Answer.Refused r }) (rule.stepRule (codeOf code) s p)
+      (stepOf (codeOf code) s p)
+  -- by chipreader::new
+  pub keeping-the-chips :
+      (s : RefT (List ℕ)) (at : ℕ)
+      → let r = readerAt s (startOf (now s) at) in
+      (r .chips ≡ s) × (r .place ≡ startOf (now s) at)
+  -- by chipreader::next
+  pub keeping-its-place :
+      (code : Code) (r : ChipReader)
+      → (readerAfter (codeOf code) r .chips ≡ r .chips)
+      × (readerAfter (codeOf code) r .place ≡ stepOf (codeOf code) (now (r .chips)) (r .place))
+  -- by sync::search, kusikhut_search
+  pub searching : (s : List ℕ) (start a : ℕ) → Judged Sync.Refused (rule.searchRule s start a) (searchOf s start a)
+  -- by sync::tail_at
+  pub sync-tail : (s : List ℕ) (place : ℕ) → Judged Tail.Refused (rule.tailRule s place) (tailOf s place)
+
+-- Frames, in bytes and in chips, and the check update.
+pub record FrameNumbers : Type 0 where
+  -- by crc::update, kusikhut_update
+  pub updating-a-check :
+      (c old new k : ℕ) → Judged Updated.Refused (rule.updateRule c old new k) (updating c old new k)
+  -- by frame::Format::frame_size, frame::FormatA::frame_size, frame::FormatB::frame_size, kusikhut_frame_size_a,
+  -- kusikhut_frame_size_b
+  pub frame-size : (f : Format) (l : ℕ) → Judged Frame.Refused (rule.sizeRule f l) (sizeFor f l)
+  -- by frame::judge
+  pub judging : (f : Format) (s : List ℕ) → Judged Frame.Refused (rule.judgeRule f s) (judgeOf f s)
+  -- by frame::read, kusikhut_read_a, kusikhut_read_b
+  pub reading : (f : Format) (s d : List ℕ) → JudgedLent Frame.Refused d (rule.readRule f s d) (readingOf f s d)
+  -- by frame::write, kusikhut_write_a, kusikhut_write_b
+  pub writing : (f : Format) (c d : List ℕ) → JudgedLent Written.Refused d (rule.writeRule f c d) (writingOf f c d)
+  -- by frame::change, kusikhut_change_a, kusikhut_change_b
+  pub changing-a-byte :
+      (f : Format) (s : List ℕ) (k b : ℕ)
+      → JudgedLent Frame.Refused s (rule.changeRule f s k b) (changingOf f s k b)
+  -- by radio::receive, kusikhut_receive
+  pub receiving :
+      (s : List ℕ) (start a : ℕ) (d : List ℕ)
+      → JudgedLent Reception.Refused d (rule.receiveRule s start a d) (receptionOf s start a d)
+  -- by radio::receive_manchester, kusikhut_receive_manchester
+  pub receiving-manchester :
+      (s : List ℕ) (start : ℕ) (d : List ℕ)
+      → JudgedLent Reception.Refused d (rule.manchesterRule s start d) (manchesterOf s start d)
+  -- by radio::send, kusikhut_send_t_a, kusikhut_send_c_a, kusikhut_send_c_b, kusikhut_send_manchester_a
+  pub sending : (k : Kind) (c d : List ℕ) → JudgedLent Written.Refused d (rule.sendRule k c d) (sendingOf k c d)
+
+-- Headers, meter filter, channels.
+pub record MeterNumbers : Type 0 where
+  -- by header::read, kusikhut_header_read
+  pub reading-a-header : (s : List ℕ) → Judged HeaderReading.Refused (rule.headerReadRule s) (headerReadingOf s)
+  -- by header::write, kusikhut_header_write_8c, kusikhut_header_write_8d, kusikhut_header_write_8e,
+  -- kusikhut_header_write_8f
+  pub writing-a-header :
+      (h : Header) (d : List ℕ) → JudgedLent Written.Refused d (rule.headerWriteRule h d) (headerWritingOf h d)
+  -- (sixteen entries: the array's type)
+  -- by filter::wanted, kusikhut_filter
+  pub filtering :
+      (es : List (List ℕ)) (n : ℕ) (s : List ℕ) → length es ≡ 16
+      → Judged Verdict.Refused (rule.filterRule es n s) (verdictOf es n s)
+  -- by channels::centre_of, kusikhut_centre
+  pub no-channel : (i c : ℕ) → (toldCentre (centreOf i c) ≡ told 13 (float 0 ∷ [])) ↔ (channelsOf i ≤ c)
+  -- by channels::centre_of, kusikhut_centre
+  pub a-channel :
+      (i c : ℕ) → (toldCentre (centreOf i c) ≡ told 0 (float (quartersOf i c) ∷ [])) ↔ (c < channelsOf i)
+  -- by channels::centre_of, kusikhut_centre
+  pub exact-centre :
+      (i c : ℕ) → c < channelsOf i
+      → (centreOf i c ≡ Centre.At (float (quartersOf i c))) × HasValue (float (quartersOf i c)) false (quartersOf i c) 4
+  -- by channels::line_at, kusikhut_band_line
+  pub no-line :
+      (b : Band) (k : ℕ) → (toldLine (lineAt b k) ≡ told 13 (0 ∷ 0 ∷ 0 ∷ [])) ↔ (length (linesOf b) ≤ k)
+  -- by channels::line_at, kusikhut_band_line
+  pub a-line :
+      (b : Band) (k i c h : ℕ)
+      → (toldLine (lineAt b k) ≡ told 0 (i ∷ c ∷ h ∷ [])) ↔ (getD (linesOf b) k Line.End ≡ Line.Channel i c h)
+  -- (index then channel ascending, in hertz: the first index's channels in their order, then the next index)
+  -- by channels::line_at, kusikhut_band_line
+  pub line-order :
+      ((b : Band) (k : ℕ) → lineAt b k ≡ getD (linesFrom (rowsOf b .first) (rowsOf b .count)) k Line.End)
+      × ((i n k : ℕ) → 0 < n
+      → (k < channelsOf i → getD (linesFrom i n) k Line.End ≡ Line.Channel i k (250 * quartersOf i k))
+      × (channelsOf i ≤ k
+      → getD (linesFrom i n) k Line.End ≡ getD (linesFrom (i + 1) (n - 1)) (k - channelsOf i) Line.End))
+  -- by channels::line_at, kusikhut_band_line
+  pub band-b :
+      (lineAt Band.B 0 ≡ Line.Channel 5 0 169481250) × ((lineAt Band.B 1 ≡ Line.Channel 6 0 169481250)
+      × (lineAt Band.B 2 ≡ Line.End))
+  -- by channels::band_of
+  pub no-band :
+      (s : List ℕ)
+      → (bandOf s ≡ Band.NoSuch)
+      ↔ ((x : ℕ) → 65 ≤ x → x ≤ 68 → ((s ≡ x ∷ []) ⊎ (s ≡ x ∷ 10 ∷ [])) → ⊥)
+  -- by channels::band_of
+  pub a-band :
+      map bandOf ((65 ∷ []) ∷ (66 ∷ []) ∷ (67 ∷ []) ∷ (68 ∷ []) ∷ [])
+      ≡ Band.A ∷ Band.B ∷ Band.C ∷ Band.D ∷ []
+  -- by channels::band_of
+  pub with-a-line-feed : (x : ℕ) → bandOf (x ∷ 10 ∷ []) ≡ bandOf (x ∷ [])
+
+-- Calls that are never refused.
+pub record Plain : Type 0 where
+  -- by crc::check, kusikhut_check
+  pub checking : (s : List ℕ) → checkOf s < 65536
+  -- by crc::check, kusikhut_check
+  pub check-vector : checkOf (0x31 ∷ 0x32 ∷ 0x33 ∷ 0x34 ∷ 0x35 ∷ 0x36 ∷ 0x37 ∷ 0x38 ∷ 0x39 ∷ []) ≡ 0xC2B7
+  -- by address::letters, kusikhut_letters
+  pub letters : (m x y z : ℕ) → (lettersOf m ≡ Maker.Three x y z) ↔ Spells m x y z
+  -- by header::announced, kusikhut_access
+  pub access : (cc : ℕ) → accessRow (accessOf cc) ≡ 2 * (cc / 128 % 2) + cc / 4 % 2
+  -- by channels::row_at, kusikhut_row
+  pub channel-row :
+      (i : ℕ)
+      → HasValue (rowOf i .centre) false (entryOf i .centre) 4
+      × (HasValue (rowOf i .spacing) false (entryOf i .spacing) 4
+      × HasValue (rowOf i .tolerance) false (entryOf i .tolerance) 4)
+  -- by channels::channels_of
+  pub channels :
+      (tabulate channelsOf 14 ≡ 0 ∷ 6 ∷ 6 ∷ 6 ∷ 1 ∷ 1 ∷ 1 ∷ 8 ∷ 8 ∷ 8 ∷ 18 ∷ 18 ∷ 18 ∷ 4 ∷ [])
+      × ((i : ℕ) → 14 ≤ i → channelsOf i ≡ 0)
+  -- by channels::rows_of
+  pub band-rows :
+      map (λ (b : Band). rowsOf b .first ∷ rowsOf b .count ∷ []) (Band.A ∷ Band.B ∷ Band.C ∷ Band.D ∷ Band.NoSuch ∷ [])
+      ≡ (1 ∷ 4 ∷ []) ∷ (5 ∷ 2 ∷ []) ∷ (7 ∷ 3 ∷ []) ∷ (10 ∷ 4 ∷ []) ∷ (0 ∷ 0 ∷ []) ∷ []
+  -- by channels::lines_of
+  pub band-lines :
+      map (λ (b : Band). length (linesOf b)) (Band.A ∷ Band.B ∷ Band.C ∷ Band.D ∷ Band.NoSuch ∷ [])
+      ≡ 19 ∷ 2 ∷ 24 ∷ 58 ∷ 0 ∷ []
+  -- by frame::Format::shortest, frame::Format::longest
+  pub lengths :
+      (formOf Format.A .shortest ≡ 10) × ((formOf Format.A .longest ≡ 255)
+      × ((formOf Format.B .shortest ≡ 10) × (formOf Format.B .longest ≡ 251)))
+  -- by line::width
+  pub widths :
+      (codeOf Code.Nrz .chips ≡ 8) × ((codeOf Code.ThreeOfSix .chips ≡ 6) × (codeOf Code.Manchester .chips ≡ 2))
+
+-- What a caller in C is told: a number, and a row of results, which is written whole at every call. Accepted, the
+-- number is 0 and the row has the sizes and values; refused, all results are zero but the one that 01 names for this
+-- refusal. So a refusal rewrites the row, and no byte of the buffer that was lent for the output.
+pub record AcceptedRows : Type 0 where
+  pub updating-a-check : (c : ℕ) → toldUpdated (Updated.Accepted c) ≡ told 0 (c ∷ [])
+  pub decoding : toldDecoded Decoded.Accepted ≡ told 0 (0 ∷ [])
+  pub one-word : (x : ℕ) → toldWord (Word.Accepted x) ≡ told 0 (x ∷ [])
+  pub writing : (size : ℕ) → toldWritten (Written.Accepted size) ≡ told 0 (size ∷ [])
+  pub frame-size : (z n : ℕ) → toldSize (Frame.Accepted z n) ≡ told 0 (z ∷ [])
+  pub reading : (z n : ℕ) → toldFrame (Frame.Accepted z n) ≡ told 0 (z ∷ n ∷ 0 ∷ [])
+  pub searching : (place tried : ℕ) → toldSync (Sync.Found place tried) ≡ told 0 (place ∷ tried ∷ [])
+  pub receiving :
+      (k : Kind) (place tried z n : ℕ)
+      → toldReception (Reception.Accepted k place tried z n)
+      ≡ told 0 (kindNumber k ∷ place ∷ tried ∷ z ∷ n ∷ 0 ∷ 0 ∷ [])
+  pub kinds :
+      map kindNumber (Kind.TWithA ∷ Kind.CWithA ∷ Kind.CWithB ∷ Kind.ManchesterWithA ∷ []) ≡ 0 ∷ 1 ∷ 2 ∷ 3 ∷ []
+  pub reading-a-header :
+      (h : Header) (n : ℕ) → toldHeader (HeaderReading.Accepted h n) ≡ told 0 (n ∷ fieldsOf h)
+  pub letters : (x y z : ℕ) → toldMaker (Maker.Three x y z) ≡ told 0 (1 ∷ x ∷ y ∷ z ∷ [])
+  pub no-letters : toldMaker Maker.NoLetters ≡ told 0 (0 ∷ 0 ∷ 0 ∷ 0 ∷ [])
+  pub filtering : (toldVerdict Verdict.Wanted ≡ told 0 (1 ∷ [])) × (toldVerdict Verdict.Unwanted ≡ told 0 (0 ∷ []))
+
+pub record RefusedRows : Type 1 where
+  pub updating-a-check : (r : Refusal) → toldUpdated (Updated.Refused r) ≡ told (numberOf r) (valueOf r ∷ [])
+  pub decoding : (r : Refusal) → toldDecoded (Decoded.Refused r) ≡ told (numberOf r) (valueOf r ∷ [])
+  pub one-word : (r : Refusal) → toldWord (Word.Refused r) ≡ told (numberOf r) (valueOf r ∷ [])
+  pub writing : (r : Refusal) → toldWritten (Written.Refused r) ≡ told (numberOf r) (valueOf r ∷ [])
+  pub frame-size : (r : Refusal) → toldSize (Frame.Refused r) ≡ told (numberOf r) (valueOf r ∷ [])
+  pub reading : (r : Refusal) → toldFrame (Frame.Refused r) ≡ told (numberOf r) (0 ∷ 0 ∷ valueOf r ∷ [])
+  pub searching : (r : Refusal) → toldSync (Sync.Refused r) ≡ told (numberOf r) (0 ∷ valueOf r ∷ [])
+  pub reading-a-header :
+      (r : Refusal) → toldHeader (HeaderReading.Refused r) ≡ told (numberOf r) (valueOf r ∷ replicate 13 0)
+  pub filtering : (r : Refusal) → toldVerdict (Verdict.Refused r) ≡ told (numberOf r) (valueOf r ∷ [])
+  pub wrong-block :
+      (b : ℕ)
+      → toldReception (Reception.Refused (Refusal.WrongCheck b)) ≡ told 3 (0 ∷ 0 ∷ 0 ∷ 0 ∷ 0 ∷ b ∷ 0 ∷ [])
+  pub bad-word :
+      (w : ℕ) → toldReception (Reception.Refused (Refusal.BadWord w)) ≡ told 6 (0 ∷ 0 ∷ 0 ∷ 0 ∷ 0 ∷ 0 ∷ w ∷ [])
+  pub unknown-tail :
+      (p : ℕ) → toldReception (Reception.Refused (Refusal.UnknownTail p)) ≡ told 8 (0 ∷ p ∷ 0 ∷ 0 ∷ 0 ∷ 0 ∷ 0 ∷ [])
+  pub no-sync :
+      (t : ℕ) → toldReception (Reception.Refused (Refusal.NoSync t)) ≡ told 7 (0 ∷ 0 ∷ t ∷ 0 ∷ 0 ∷ 0 ∷ 0 ∷ [])
+  pub used-up :
+      (t : ℕ) → toldReception (Reception.Refused (Refusal.UsedUp t)) ≡ told 14 (0 ∷ 0 ∷ t ∷ 0 ∷ 0 ∷ 0 ∷ 0 ∷ [])
+  pub receiving :
+      (r : Refusal) → valueOf r ≡ 0 → toldReception (Reception.Refused r) ≡ told (numberOf r) (replicate 7 0)
+  pub lent-memory : {A : Type 0} (f : A → Told ℕ) (o : Outcome A) → tells f o .memory ≡ o .memory
+
+-- Demand 2, the line codes by themselves: decoding what was encoded gives back the bytes, encoding what was decoded the
+-- chips. Nothing that is no code word is ever decoded: `decoding` above. An output may be longer than a received buffer
+-- may be, so the first m of its bytes are decoded, those that were written among them.
+pub record InCodes : Type 0 where
+  pub encoded-then-decoded :
+      (code : Code) (b buf d : List ℕ) (z m : ℕ) → Bytes b → encoded (codeOf code) b buf .answer ≡ Written.Accepted z
+      → z ≤ m → m ≤ roomLimit → length b ≤ length d
+      → decoded (codeOf code) (take m (encoded (codeOf code) b buf .memory)) 0 (length b) d
+      ≡ record { answer = Decoded.Accepted; memory = b ++ drop (length b) d }
+  pub decoded-then-encoded :
+      (code : Code) (s : List ℕ) (start n : ℕ) (d out : List ℕ)
+      → decoded (codeOf code) s start n d .answer ≡ Decoded.Accepted → encodedSize (codeOf code) n ≤ length out
+      → let o = encoded (codeOf code) (take n (decoded (codeOf code) s start n d .memory)) out in
+      (o .answer ≡ Written.Accepted (encodedSize (codeOf code) n))
+      × ((i : ℕ) → i < chipsIn (codeOf code) n → chipAt (o .memory) i ≡ chipAt s (start + i))
+
+-- The headers' own round trips. Fields that a kind lacks are read as zeros (`trimmed`).
+pub record InHeaders : Type 0 where
+  pub written-then-read :
+      (h : Header) (d : List ℕ) → headerLength (h .kind) ≤ length d
+      → headerReadingOf (headerWritingOf h d .memory) ≡ HeaderReading.Accepted (trimmed h) (headerLength (h .kind))
+  pub read-then-written :
+      (s : List ℕ) → Bytes s → (h : Header) (n : ℕ) (d : List ℕ) → headerReadingOf s ≡ HeaderReading.Accepted h n
+      → n ≤ length d
+      → headerWritingOf h d ≡ record { answer = Written.Accepted n; memory = take n s ++ drop n d }
+
+-- Demand 2, in bytes. A buffer s is accepted, with frame size z and content length n, and leaves m in the lent memory
+-- d, exactly when s begins with the frame of some content c of n bytes for which d has room, and m is c with what d
+-- held behind it. Nothing else is ever accepted. Reading what was written gives back the content; writing what was read
+-- gives back the frame's bytes.
+pub record InBytes : Type 0 where
+  pub accepted-exactly :
+      (f : Format) (s d m : List ℕ) (z n : ℕ)
+      → (readingOf f s d ≡ record { answer = Frame.Accepted z n; memory = m }) ↔ ((c : List ℕ) × Handed f s d z n m c)
+  pub written-then-read :
+      (f : Format) (c d : List ℕ) → formOf f .shortest ≤ length c → length c ≤ formOf f .longest
+      → frameSize f (length c) ≤ length d → (e : List ℕ) → length c ≤ length e
+      → readingOf f (writingOf f c d .memory) e
+      ≡ record { answer = Frame.Accepted (frameSize f (length c)) (length c); memory = c ++ drop (length c) e }
+  pub read-then-written :
+      (f : Format) (s d e : List ℕ) (z n : ℕ) → readingOf f s d .answer ≡ Frame.Accepted z n → z ≤ length e
+      → writingOf f (take n (readingOf f s d .memory)) e
+      ≡ record { answer = Written.Accepted z; memory = take z s ++ drop z e }
+
+-- Demand 2, in chips, once over the kind (T with A, C with A, C with B, Manchester with A). A frame that the search
+-- reaches within its allowance, and whose content fits the lent memory, is accepted exactly when its sync word, line
+-- code, length and every block check are right; nothing else is ever accepted. That is said apart from the receiver's
+-- steps: the chips at the place where the call looks are those that sending some content c as this kind writes (Heard).
+-- The answer then names kind, place, positions tried, frame size and length, and m, what the memory holds, is c with
+-- what d held behind it; the kind is one that this call looks for. Receiving what was sent gives back the content;
+-- sending what was received gives back the frame's chips.
+pub record InChips : Type 0 where
+  pub accepted-exactly :
+      (s : List ℕ) (start a : ℕ) (d : List ℕ) (j k : Kind) (place t z n : ℕ) (m : List ℕ)
+      → (receivingOf j s start a d ≡ record { answer = Reception.Accepted k place t z n; memory = m })
+      ↔ ((c : List ℕ) × (Heard s start a d k place t z n c × ((m ≡ c ++ drop n d) × (searched k ≡ searched j))))
+  pub sent-then-received :
+      (k : Kind) (c d : List ℕ) → Bytes c → length c ≤ length d
+      → (buf : List ℕ) (a y m : ℕ) → 0 < a → sendingOf k c buf .answer ≡ Written.Accepted y
+      → y ≤ m → m ≤ roomLimit
+      → receivingOf k (take m (sendingOf k c buf .memory)) 0 a d
+      ≡ heardOf k 0 (firstTry k) (frameSize (formatOf k) (length c)) c d
+  pub received-then-sent :
+      (s : List ℕ) (start a : ℕ) (d : List ℕ) (j k : Kind) (place t z n : ℕ) (out : List ℕ)
+      → receivingOf j s start a d .answer ≡ Reception.Accepted k place t z n → airSize k z ≤ length out
+      → let o = sendingOf k (take n (receivingOf j s start a d .memory)) out in
+      (o .answer ≡ Written.Accepted (airSize k z))
+      × ((i : ℕ) → i < sentChips k n → chipAt (o .memory) i ≡ chipAt s (place + i))
+
+-- Demand 3. Take a frame that reading accepts. After any sequence of byte changes in its format, refused ones included,
+-- the buffer holds exactly what writing the changed content from scratch would leave in it. Each change is accepted
+-- exactly where its place is below n; of several changes at a place the last one holds. One accepted change touches its
+-- byte and the two check bytes over it, and the new check follows from the old check, the old and the new byte and the
+-- distance to the end of the span alone. It mends every span (`updating-a-check` above), and nothing else does.
+pub record Changes : Type 0 where
+  pub sequence-is-writing :
+      (f : Format) (s d : List ℕ) (z n : ℕ) → readingOf f s d .answer ≡ Frame.Accepted z n
+      → (es : List Edit)
+      → _≡_ {A = Outcome Written} (record { answer = Written.Accepted z; memory = changing f es s })
+      (writingOf f (edited es (take n (readingOf f s d .memory))) s)
+  pub each-is-judged :
+      (f : Format) (s d : List ℕ) (z n : ℕ) → readingOf f s d .answer ≡ Frame.Accepted z n
+      → (es : List Edit)
+      → answersOf f es s
+      ≡ map (λ (e : Edit). cond (ltb (e .place) n) (Frame.Accepted z n) (Frame.Refused Refusal.BadPlace)) es
+  pub last-holds :
+      (es : List Edit) (c : List ℕ) (k : ℕ) → k < length c → getD (edited es c) k 0 ≡ lastAt es k (getD c k 0)
+  pub touches-three-bytes :
+      (f : Format) (s d : List ℕ) (z n k b : ℕ) → readingOf f s d .answer ≡ Frame.Accepted z n → k < n
+      → Touched f s (changingOf f s k b .memory) (take n (readingOf f s d .memory)) k b (placeOf f n k)
+      (checkPlaceOf f n k)
+  pub nothing-else-mends :
+      (c old new k : ℕ) (r : Updated) → c < 65536 → k ≤ 125 → Mends c old new k r → r ≡ updating c old new k

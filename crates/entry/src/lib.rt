@@ -1,0 +1,13 @@
+// Calls under the page's own words. The page of demands (crates/demands/specs/Demands) speaks of definitions, and names
+// the functions that answer by them. Here the checker itself ties the two: a function calls an entry point, and its
+// contract is what the page says of that call. One that answered by another definition would not be proved here.
+//
+// Called are: each function below the C interface that answers a `Refusal`, but `chipreader::new` and `next` (a struct
+// that holds a reference: they would need walks by hand); channels and band lines through their exported functions; two
+// changes of a frame (demand 3); and the exported functions with two parameters of one type, under their own equations.
+// Nothing here is public and nothing calls it: it is there to be proved.
+
+mod judged; // judged.rt: the entry points of the crates below, each judged by its ladder
+mod listed; // listed.rt: channels and lines of a band, each number exactly in its case
+mod repeated; // repeated.rt: two changes of a frame, one after the other
+mod roles; // roles.rt: exported functions with two parameters of one type, each parameter in its role
