@@ -5,6 +5,7 @@
  *   bench count NAME SIDE TIMES    so many calls of one side, ours or other, for bench/run to count instructions */
 #define _POSIX_C_SOURCE 199309L
 #include "../include/kusikhut.h"
+#include "store_rows.h"
 #include "twins.h"
 #include <stdio.h>
 #include <stdlib.h>
@@ -56,6 +57,7 @@ NOINLINE void update_ours(void) { sink += kusikhut_update(0x1234, 1, (uint8_t)si
 NOINLINE void update_other(void) { sink += twin_check_after(span, 126, 0, (uint8_t)sink); }
 
 typedef void (*Call)(void);
+#define AGAINST_STORE "C: one pass, in place"
 static const struct {
     const char *name, *ours, *against;
     Call first, second;
@@ -73,6 +75,19 @@ static const struct {
     {"write", "write a 290-byte A frame", "C, table check", write_ours, write_other, 1.2},
     {"change", "change a byte of it", "our own read", change_ours, change_other, 1.2},
     {"update", "check update at distance 125", "C, 126-byte check anew", update_ours, update_other, 0.5},
+    {"add", "64 meters: add one that is held", AGAINST_STORE, store_add_ours, store_add_other, 2.0},
+    {"add_new", "64 meters: add the last", AGAINST_STORE, store_add_new_ours, store_add_new_other, 2.0},
+    {"hear", "64 meters: hear a number", AGAINST_STORE, store_hear_ours, store_hear_other, 2.0},
+    {"issue", "64 meters: issue a number", AGAINST_STORE, store_issue_ours, store_issue_other, 2.0},
+    {"look_up", "64 meters: look one up", AGAINST_STORE, store_look_up_ours, store_look_up_other, 2.0},
+    {"allowance", "64 meters: the allowance", AGAINST_STORE, store_allowance_ours, store_allowance_other, 2.0},
+    {"set_allowance", "64 meters: set the allowance", AGAINST_STORE, store_set_allowance_ours,
+     store_set_allowance_other, 2.0},
+    {"write_store", "64 meters: write the file", AGAINST_STORE, store_write_ours, store_write_other, 2.0},
+    {"restore", "64 meters: restore into the same", AGAINST_STORE, store_restore_ours, store_restore_other, 2.0},
+    {"restore_new", "64 meters: restore into an empty store", AGAINST_STORE, store_restore_new_ours,
+     store_restore_new_other, 2.0},
+    {"empty", "an empty store", AGAINST_STORE, store_empty_ours, store_empty_other, 2.0},
 };
 enum { ROWS = sizeof rows / sizeof *rows };
 
@@ -117,6 +132,7 @@ static void prepare(void) {
     if (kusikhut_write_a(content, sizeof content, frame, sizeof frame, r) != 0) exit(1);
     if (kusikhut_send_t_a(content, sizeof content, chips, sizeof chips, r) != 0) exit(1);
     chips_len = r[0];
+    store_sized(64);
 }
 
 static int same_word(uint8_t (*first)(const uint8_t *, size_t, size_t, uint64_t *),
@@ -144,6 +160,22 @@ static int same_answers(void) {
     return 1;
 }
 
+/* A call of the store at five sizes, and where 64 addresses fall on one slot of the library's table: every meter is
+ * compared with all before it then. Still right, and slower; the twin's table is another, which they do not hurt. */
+static void store_growth(const char *name, Call first, Call second) {
+    double m, twin;
+    printf("\n| %s, meters | ns | ns a meter |\n|---|---|---|\n", name);
+    for (size_t n = 4; n <= 64; n *= 2) {
+        store_sized(n);
+        medians(first, first, &m, &twin);
+        printf("| %zu | %.0f | %.2f |\n", n, m, m / (double)n);
+    }
+    store_hostile();
+    medians(first, second, &m, &twin);
+    printf("| 64 in one slot | %.0f (C %.0f) | %.2f |\n", m, twin, m / 64);
+    store_sized(64);
+}
+
 static void growth(void) {
     printf("\n| search, chips tried | ns | ns a chip |\n|---|---|---|\n");
     for (sized = 64; sized <= 1024; sized *= 2) {
@@ -159,11 +191,14 @@ static void growth(void) {
         medians(receive_ours, receive_ours, &m, &unused);
         printf("| %zu | %.0f | %.2f |\n", n, m, m / (double)n);
     }
+    store_growth("hear", store_hear_ours, store_hear_other);
+    store_growth("restore into the same", store_restore_ours, store_restore_other);
+    store_growth("restore into an empty store", store_restore_new_ours, store_restore_new_other);
 }
 
 int main(int argc, char **argv) {
     prepare();
-    if (!same_answers()) {
+    if (!same_answers() || (argc == 1 && !store_same())) {
         puts("the twins answer otherwise: nothing was measured");
         return 1;
     }

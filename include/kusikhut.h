@@ -5,7 +5,7 @@
  * What a caller must see to, and nothing else:
  *  - Every pointer is valid for its length and not NULL, also where the length is 0.
  *  - `results` points to as many numbers as its array bound says.
- *  - Memory that is lent to be written (out, frame, results, row, centre) overlaps nothing else of the call.
+ *  - Memory that is lent to be written (out, frame, store, results, row, centre) overlaps nothing else of the call.
  * Every value of every number is allowed: any place, size, allowance, count or byte gets an answer. That every call
  * ends is proved of the source, on the language's own machine; the stack that it needs is the caller's to provide.
  * No call keeps a pointer or reads past a length.
@@ -17,10 +17,12 @@
  *   10 out of range (received chip buffer over 1,024 bytes, start above the chip count, filter count over 16,
  *      check distance over 125)       11 CI is none of the four     12 body shorter than its header, or empty
  *   13 no such channel                14 allowance used up, positions left, no sync
+ *   17 malformed store                18 store of unknown version     19 meter not held
+ *   20 meter unsure                   21 session numbers used up      22 store full
  * The numbers with each function below stand in the order in which they are judged; docs/ANSWERS.md says more of them.
- * A refusal (any number but 0) changes no byte of `out` or `frame`. `results` is always written whole: the values named
- * below in this order, zero where the answer has no such value. A refusal shows at most one value, so the sum of its
- * results is that value.
+ * A refusal (any number but 0) changes no byte of `out`, `frame` or `store`. `results` is always written whole: the
+ * values named below in this order, zero where the answer has no such value. A refusal shows at most one value, so the
+ * sum of its results is that value.
  *
  * A chip buffer holds its first chip in the highest bit of its first byte; a chip place counts from 0. */
 #ifndef KUSIKHUT_H
@@ -131,6 +133,64 @@ uint8_t kusikhut_letters(uint16_t m, uint64_t results[4]);
  * results[0]: 1 wanted, 0 not. */
 uint8_t kusikhut_filter(const uint8_t entries[16][8], size_t count, const uint8_t *content, size_t content_len,
                         uint64_t results[1]);
+
+/* The settings store: up to 64 meters, each with mode, format, last session number and unsure mark, and the position
+ * allowance. The caller owns its memory, KUSIKHUT_STORE_SIZE bytes or more: first the store as a file of version 2,
+ * then bytes that mean nothing and that no call touches unless the store grows over them. Memory that is no store is
+ * refused: 17 if it has no byte, 18 if its first byte is not 2, else 17, also if it has fewer bytes than that.
+ * A meter is its M and A as received, eight bytes. A mode is its number in Table 64 (R 0, S 1, T 2, C 3, N 4, F 5), a
+ * format its number in Table 65 (A 0, B 1). The file is the byte 2, then 4 and the allowance, 1 and the meter count,
+ * then for each meter 8 and M and A, 1 and mode, 1 and format, 4 and number, 1 and mark; numbers with the highest byte
+ * first. So M and A of meter k, from 0, stand from byte 9 + 20 k on.
+ *
+ * Begin with kusikhut_store_empty, once: called again it begins another store, which knows nothing of this one. From
+ * then on each number that is issued for a meter is above every one that was issued for it or heard from it before,
+ * whatever calls and restores come between. Heard is what an accepted kusikhut_store_hear was given: a number of a
+ * meter that is not held is refused with 19 and not remembered. A backup comes in by kusikhut_store_restore alone:
+ * copied into this memory, or written there as the `out` of another store's kusikhut_store_write, it would turn numbers
+ * back, and nothing could see it. What may be copied back, after a restart, is what this very store saved last.
+ * Not promised:
+ *  - that a number is above one that was issued or heard and not saved before the power failed. Save the store's bytes
+ *    after every accepted hear, and after every issue before the number is sent. Calls that change the store answer in
+ *    results[0] how many bytes it has; issuing leaves their count;
+ *  - of a meter that the store did not hold when a backup was restored, as an empty one holds none: that a number is
+ *    above those issued or heard between the backup and its restore. The store cannot know them: issuing is refused
+ *    with 20 until a number of the meter is heard, and only one as large as the lost ones helps. */
+#define KUSIKHUT_STORE_SIZE 1288
+
+/* A store without meters, with the allowance 16,384: 0, or 4. results[0]: its bytes. */
+uint8_t kusikhut_store_empty(uint8_t *store, size_t store_len, uint64_t results[1]);
+
+/* Adds a meter, unsure and at number 0; of one that is held only mode and format are set: 0, or the store's 17, 18, 17;
+ * 17 if mode or format is outside its list; 22. results[0]: the store's bytes. */
+uint8_t kusikhut_store_add(uint8_t *store, size_t store_len, const uint8_t meter[8], uint8_t mode, uint8_t format,
+                           uint64_t results[1]);
+
+/* A number was heard from the meter: it is sure, and keeps the larger number: 0, or 17, 18, 17; 19.
+ * results[0]: the store's bytes. */
+uint8_t kusikhut_store_hear(uint8_t *store, size_t store_len, const uint8_t meter[8], uint32_t number,
+                            uint64_t results[1]);
+
+/* The next number for the meter: 0, or 17, 18, 17; 19, 20, 21. results[0]: the number. */
+uint8_t kusikhut_store_issue(uint8_t *store, size_t store_len, const uint8_t meter[8], uint64_t results[1]);
+
+/* Restores a file of version 1 or 2, all or nothing: 0, or the store's 17, 18, 17; the file's 17 (empty), 18, 17; 22.
+ * Mode, format and allowance are the file's, the larger number counts, and the store's own marks stay; version 1 means
+ * the allowance 16,384. Held meters keep their places and stay if the file lacks them; new ones follow in the file's
+ * order, unsure. results[0]: the store's bytes. */
+uint8_t kusikhut_store_restore(uint8_t *store, size_t store_len, const uint8_t *file, size_t file_len,
+                               uint64_t results[1]);
+
+/* Writes the store as a file of version 2: 0, or 17, 18, 17; 4. results[0]: bytes written; bytes of out after them
+ * stay. */
+uint8_t kusikhut_store_write(const uint8_t *store, size_t store_len, uint8_t *out, size_t out_len, uint64_t results[1]);
+
+/* What is held of a meter: 0, or 17, 18, 17; 19. results: mode, format, number, 1 if unsure. */
+uint8_t kusikhut_store_look_up(const uint8_t *store, size_t store_len, const uint8_t meter[8], uint64_t results[4]);
+
+/* The position allowance, read and set: 0, or 17, 18, 17. results[0]: the allowance; the store's bytes. */
+uint8_t kusikhut_store_allowance(const uint8_t *store, size_t store_len, uint64_t results[1]);
+uint8_t kusikhut_store_set_allowance(uint8_t *store, size_t store_len, uint32_t allowance, uint64_t results[1]);
 
 /* Mode N. A row of Table 21 by index: first centre, spacing, tolerance in kHz; zeros for an index that is not 1 to 13.
  * A channel's centre in kHz: 0, or 13 and zero. */

@@ -80,6 +80,12 @@ def declarations(path):
     return out
 
 
+def constructors(item):
+    """The constructors of a data type."""
+    data = re.match(r"(?:pub )?data ", item.text[0])
+    return [m.group(1) for m in map(re.compile(r"  (\w+) :").match, item.text[1:]) if m] if data else []
+
+
 def rust_types(path):
     """The enums and structs of a source file."""
     lines = code(path)
@@ -105,7 +111,7 @@ class House:
     """Every definition of the crates, and what each file calls by which name."""
 
     def __init__(self):
-        self.defined, self.types, self.files = {}, {}, {}
+        self.defined, self.types, self.files, self.made = {}, {}, {}, {}
         self.public, self.inner, self.open = [], [], []
         crates = Path("crates")
         sources = sorted(crates.glob("*/src/**/*.rt"))
@@ -118,11 +124,15 @@ class House:
                 self.types[path.parts[1], item.name] = key
             self.public += functions(path, True)
             self.inner += functions(path, False)
+        read = []
         for path in sorted(crates.glob("*/specs/*.antt")) + sorted(crates.glob("*/proofs/*.antt")):
             module = f"Rattle.{path.parts[1]}.{path.parts[2]}" + ("" if path.stem == "Lib" else "." + path.stem)
             items = declarations(path)
             self.defined.update({(module, item.name): item for item in items})
-            self.file(path, {item.name: (module, item.name) for item in items})
+            self.made.update({(module, c): (module, item.name) for item in items for c in constructors(item)})
+            read.append((path, {item.name: (module, item.name) for item in items}))
+        for path, own in read:
+            self.file(path, own)
         for path in sources:
             self.file(path, {name: key for (crate, name), key in self.types.items() if crate == path.parts[1]})
 
@@ -130,8 +140,8 @@ class House:
         names, modules = imports(path)
         crate = path.parts[1]
         known = {**own, **{n: self.home(crate, *v) for n, v in names.items()}}
-        # an operator of words, `_when_else_`, is used by its first word
-        known.update({n.split("_")[1]: key for n, key in known.items() if re.match(r"_[a-z]+_[a-z]+_$", n)})
+        # an operator of words, `_when_else_` or `_andThen_`, is used by its first word
+        known.update({n.split("_")[1]: key for n, key in known.items() if re.match(r"_[a-zA-Z]+_([a-z]+_)?$", n)})
         self.files[str(path)] = known, modules
 
     def home(self, crate, module, name):
@@ -145,10 +155,10 @@ class House:
         if module.endswith(".the-variants"):
             module = module[:-len(".the-variants")]
             name = module.split(".")[-1]
-        return module, name
+        return self.made.get((module, name), (module, name))
 
     def is_type(self, key):
-        return key in self.types.values()
+        return key in self.types.values() or key in self.made.values()
 
     def names(self, item):
         """The definitions of the project that a text names."""

@@ -1,5 +1,5 @@
 /* Links libkusikhut.a from C and walks through a collector's day with the frame of EN 13757-4:2019, Annex C.2:
- * receive it, change a byte in it, send it on, and see refusals leave lent memory alone. */
+ * receive it, change a byte in it, send it on, number its sessions, and see refusals leave lent memory alone. */
 #include "../../include/kusikhut.h"
 #include <stdio.h>
 #include <string.h>
@@ -56,7 +56,76 @@ static void chips(void) {
     expect(kusikhut_receive(air, 0, 0, 10, out, sizeof out, r) == 7 && r[2] == 0, "receive: the empty buffer");
 }
 
+enum { SIZE = KUSIKHUT_STORE_SIZE };
+
+static const uint8_t meter[8] = {0xAE, 0x0C, 0x78, 0x56, 0x34, 0x12, 0x01, 0x07}, other[8] = {1};
+
+static void new_store(uint8_t *store) {
+    uint64_t r[1];
+    memset(store, 0xEE, SIZE + 1);
+    expect(kusikhut_store_issue(store, SIZE, meter, r) == 18, "store: memory of another version");
+    expect(kusikhut_store_issue(store, SIZE - 1, meter, r) == 18, "store: another version, also in too little memory");
+    expect(kusikhut_store_issue(store, 1, meter, r) == 18, "store: another version in the only byte");
+    expect(kusikhut_store_issue(store, 0, meter, r) == 17, "store: no byte, so no version");
+    expect(kusikhut_store_empty(store, SIZE - 1, r) == 4 && all(store, SIZE, 0xEE), "store: too little memory");
+    expect(kusikhut_store_empty(store, SIZE, r) == 0 && r[0] == 8, "store: empty, eight bytes");
+    expect(all(store + 8, SIZE - 7, 0xEE), "store: nothing behind them is touched");
+    expect(kusikhut_store_issue(store, SIZE - 1, meter, r) == 17, "store: memory that is too small for one");
+    expect(kusikhut_store_issue(store, 1, meter, r) == 17, "store: the version alone");
+}
+
+static void numbers(uint8_t *store) {
+    uint64_t r[1];
+    expect(kusikhut_store_issue(store, SIZE, meter, r) == 19, "issue: not held");
+    expect(kusikhut_store_hear(store, SIZE, meter, 7, r) == 19, "hear: not held");
+    expect(kusikhut_store_add(store, SIZE, meter, 6, 0, r) == 17, "add: there is no mode 6");
+    expect(kusikhut_store_add(store, SIZE, meter, 2, 2, r) == 17, "add: there is no format 2");
+    expect(kusikhut_store_add(store, SIZE, meter, 2, 0, r) == 0 && r[0] == 28, "add: 28 bytes now");
+    expect(kusikhut_store_issue(store, SIZE, meter, r) == 20 && r[0] == 0, "issue: unsure");
+    expect(kusikhut_store_hear(store, SIZE, meter, 1000, r) == 0 && r[0] == 28, "hear");
+    expect(kusikhut_store_issue(store, SIZE, meter, r) == 0 && r[0] == 1001, "issue: above what was heard");
+    expect(kusikhut_store_set_allowance(store, SIZE, 20000, r) == 0 && r[0] == 28, "allowance: set");
+}
+
+/* A backup, a week of numbers, and the backup restored. */
+static void restores(uint8_t *store) {
+    uint8_t file[64], before[SIZE];
+    uint64_t r[1];
+    memset(file, 0xEE, sizeof file);
+    expect(kusikhut_store_write(store, SIZE, file, 27, r) == 4 && all(file, 64, 0xEE), "write: no room");
+    expect(kusikhut_store_write(store, SIZE, file, 64, r) == 0 && r[0] == 28, "write: 28 bytes");
+    expect(memcmp(file, store, 28) == 0 && all(file + 28, 36, 0xEE), "write: the store, and nothing behind it");
+    for (uint64_t day = 1; day <= 7; day++)
+        expect(kusikhut_store_issue(store, SIZE, meter, r) == 0 && r[0] == 1001 + day, "issue: the next one");
+    memcpy(before, store, SIZE);
+    expect(kusikhut_store_restore(store, SIZE, file, 0, r) == 17, "restore: the empty file");
+    expect(kusikhut_store_restore(store, SIZE, file, 29, r) == 17, "restore: a byte left over");
+    expect(kusikhut_store_restore(store, SIZE, file + 1, 27, r) == 18, "restore: another version");
+    expect(memcmp(before, store, SIZE) == 0, "restore: a refusal leaves the store");
+    expect(kusikhut_store_restore(store, SIZE, file, 28, r) == 0 && r[0] == 28, "restore: accepted");
+    expect(kusikhut_store_issue(store, SIZE, meter, r) == 0 && r[0] == 1009, "restore: no number is turned back");
+    expect(kusikhut_store_empty(store, SIZE, r) == 0, "store: a new one");
+    expect(kusikhut_store_restore(store, SIZE, file, 28, r) == 0 && r[0] == 28, "restore: into an empty store");
+    expect(kusikhut_store_issue(store, SIZE, meter, r) == 20, "restore: nothing is issued before a number is heard");
+}
+
+static void held(uint8_t *store) {
+    uint64_t r[4];
+    expect(kusikhut_store_allowance(store, SIZE, r) == 0 && r[0] == 20000, "allowance: the file's");
+    expect(kusikhut_store_look_up(store, SIZE, other, r) == 19 && !(r[0] | r[1] | r[2] | r[3]), "look up: not held");
+    expect(kusikhut_store_look_up(store, SIZE, meter, r) == 0, "look up: held");
+    expect(r[0] == 2 && r[1] == 0 && r[2] == 1001 && r[3] == 1, "look up: mode, format, number, unsure");
+    expect(kusikhut_store_hear(store, SIZE, meter, UINT32_MAX, r) == 0, "hear: the largest number");
+    expect(kusikhut_store_issue(store, SIZE, meter, r) == 21, "issue: none above it");
+    for (uint8_t k = 1; k < 64; k++)
+        expect(kusikhut_store_add(store, SIZE, (const uint8_t[8]){k}, 5, 1, r) == 0, "add: up to 64");
+    expect(kusikhut_store_add(store, SIZE, (const uint8_t[8]){64}, 5, 1, r) == 22, "add: one too many");
+    expect(kusikhut_store_add(store, SIZE, meter, 3, 1, r) == 0 && r[0] == SIZE, "add: one that is held");
+    expect(store[SIZE] == 0xEE, "store: nothing behind its memory is touched");
+}
+
 int main(void) {
+    uint8_t store[SIZE + 1];
     uint64_t r[14];
     double khz[1];
     static const uint8_t body[3] = {0x8C, 0x20, 0x27};
@@ -65,6 +134,10 @@ int main(void) {
     expect(kusikhut_update(0xFFFF, 0, 1, 126, r) == 10 && r[0] == 0, "update: distance over 125");
     frames();
     chips();
+    new_store(store);
+    numbers(store);
+    restores(store);
+    held(store);
     expect(kusikhut_header_read(body, 3, r) == 0 && r[0] == 3 && r[1] == 0x8C && r[2] == 0x20 && r[3] == 0x27, "header");
     expect(kusikhut_access(0x84) == 3 && kusikhut_access(0x20) == 0, "access");
     expect(kusikhut_letters(0x0443, r) == 0 && r[0] == 1 && r[1] == 'A' && r[2] == 'B' && r[3] == 'C', "letters");

@@ -18,14 +18,16 @@ from collections import namedtuple
 from pathlib import Path
 
 # public functions that may ask something of their caller (D23); none of them is an entry point or exported
-ASKING = {"chips::word", "chips::narrow", "blocks::first_wrong", "blocks::take_out", "blocks::put_all",
-          "blocks::set_byte", "address::two_at", "address::name_at", "address::put_four", "address::put_name"}
+ASKING = {"chips::word", "chips::narrow", "blocks::first_wrong", "blocks::copy_part", "blocks::take_out",
+          "blocks::put_all", "blocks::set_byte", "address::two_at", "address::name_at", "address::put_four",
+          "address::put_name", "address::four_at", "address::key_at", "address::put_number", "address::put_key"}
 # clauses beside the equation, by name: document 01's own words on the update (D20); they allow no other answer
 BESIDE = {("crc::update", "mends")}
 # clauses that settle and are no equation with a definition, word for word: a byte is itself, and below 256
 OTHERWISE = {"chips::wide": "λ r. ⌜ (r ≡ b) × (r < 256) ⌝"}
-# words of the toolchain that may stand in a RIGHT; HEADS may also begin it, as the bytes stored from a place on
-KIT, HEADS = {"now", "length", "drop", "replicate"}, {"sets"}
+# words of the toolchain that may stand in a RIGHT; HEADS may also begin it, as the bytes that are stored from a place on
+# (`sets`) or copied there (`paste`)
+KIT, HEADS = {"now", "length", "drop", "replicate"}, {"sets", "paste"}
 # where the words that equations are made of must come from
 HOMES = {"_≡_": "mathlib.Core.Path", "Outcome": "Rattle.answers.specs.Outcome", "told": "Rattle.kusikhut.specs.Told",
          "shown": "Rattle.kusikhut.specs.Told"}

@@ -5,7 +5,7 @@
 
 Fails on: a line of more than 120 characters (imports aside); a path of four or more
 steps that stands twice in one answer of a Proof.antt; a law of more than 20 lines; more
-than one law in ten of over 8 lines. Walks by hand (WALKS) are left out: their text follows
+than one law in ten of over 8 lines (cases in a row with one right side count as one line). Walks by hand (WALKS) are left out: their text follows
 the program logic step by step. With --list it also names the laws of over 8 lines.
 """
 import argparse, collections, os, re, sys
@@ -43,6 +43,12 @@ def blocks(lines):
     return out
 
 
+def size(lines):
+    """How many lines a law has; cases one behind the other with the same right side are read as one."""
+    rights = [line.partition(" = ")[2] for line in lines]
+    return sum(not right or right != before for right, before in zip(rights, [""] + rights))
+
+
 def twice(lines):
     """Paths of four or more steps that stand more than once in one answer: counted over every prefix of a path."""
     seen = collections.Counter()
@@ -72,10 +78,10 @@ def main():
         elif "/proofs/" in path and not path.endswith("/Lib.antt"):
             for no, name, text in blocks(lines):
                 laws += 1
-                if len(text) > USUAL:
-                    long.append(f"{path}:{no}: {name}: {len(text)} lines")
-                if len(text) > LONGEST:
-                    wrong.append(f"{path}:{no}: {name}: {len(text)} lines")
+                if size(text) > USUAL:
+                    long.append(f"{path}:{no}: {name}: {size(text)} lines")
+                if size(text) > LONGEST:
+                    wrong.append(f"{path}:{no}: {name}: {size(text)} lines")
     if not a.crate and len(long) * 10 > laws:
         wrong.append(f"{len(long)} of {laws} laws have more than {USUAL} lines")
     for line in (long if a.list else []) + wrong:

@@ -1,3 +1,4 @@
 pub mod LettersLaws
 pub mod NameLaws
 pub mod WorkedExamples
+pub mod KeyLaws

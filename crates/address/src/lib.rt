@@ -8,6 +8,7 @@ ghost use lib.ListN.{length};
 ghost use lib.Seq.{sets};
 ghost use Rattle.address.specs.Letters.{isLetter, lettersOf};
 ghost use Rattle.address.specs.Names.{twoAt, nameBytes, nameAt};
+ghost use Rattle.address.specs.Keys.{fourAt, fourBytes, keyAt, keyBytes};
 
 // Three letters as ASCII bytes, 'A' to 'Z'.
 pub enum Maker {
@@ -88,4 +89,44 @@ pub fn put_name(out: &mut [u8], k: usize, name: Name)
     let a = name.a;
     put_four(out, k, (m % 256) as u8, (m / 256) as u8, a.0, a.1);
     put_four(out, k + 4, a.2, a.3, a.4, a.5);
+}
+
+// The number in four bytes from place k on, highest first.
+pub fn four_at(s: &[u8], k: usize) -> u32
+    requires { ⌜ k + 3 < length (now s) ⌝ }
+    ensures { λ r. ⌜ r ≡ fourAt (now (s .entry)) k ⌝ }
+{
+    ((s[k] as u32 * 256 + s[k + 1] as u32) * 256 + s[k + 2] as u32) * 256 + s[k + 3] as u32
+}
+
+// The number in eight bytes from place k on, highest first.
+pub fn key_at(s: &[u8], k: usize) -> u64
+    requires { ⌜ k + 7 < length (now s) ⌝ }
+    ensures { λ r. ⌜ r ≡ keyAt (now (s .entry)) k ⌝ }
+{
+    four_at(s, k) as u64 * 4294967296 + four_at(s, k + 4) as u64
+}
+
+// Stores a number as four bytes from place k on, highest first.
+pub fn put_number(out: &mut [u8], k: usize, n: u32)
+    requires { ⌜ k + 3 < length (now out) ⌝ }
+    ensures { λ r. ⌜ now (out .exit) ≡ sets (now (out .entry)) k (fourBytes n) ⌝ }
+{
+    put_four(
+        out,
+        k,
+        (n / 16777216 % 256) as u8,
+        (n / 65536 % 256) as u8,
+        (n / 256 % 256) as u8,
+        (n % 256) as u8,
+    );
+}
+
+// Stores a number as eight bytes from place k on, highest first.
+pub fn put_key(out: &mut [u8], k: usize, a: u64)
+    requires { ⌜ k + 7 < length (now out) ⌝ }
+    ensures { λ r. ⌜ now (out .exit) ≡ sets (now (out .entry)) k (keyBytes a) ⌝ }
+{
+    put_number(out, k, (a / 4294967296) as u32);
+    put_number(out, k + 4, (a % 4294967296) as u32);
 }

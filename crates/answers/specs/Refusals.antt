@@ -1,9 +1,9 @@
--- The refusals (document 01, "Answer numbers"): the table's first and third column.
+-- The refusals (document 01, "Answer numbers": the table's first and third column; document 02, 9/14).
 --     numberOf r    the number that a refusal is given under; 0 is acceptance and no refusal
 --     valueOf r     what it returns besides: "nothing" is 0
 use Prim.Native.Nat.{ℕ}
 use Rattle.answers.specs.declared.Refusal.{Refusal}
-use Rattle.answers.specs.declared.Refusal.the-variants.{Short, BadLength, WrongCheck, NoRoom, BadContent, BadWord, NoSync, UnknownTail, BadPlace, OutOfRange, UnknownCi, ShortBody, NoSuchChannel, UsedUp}
+use Rattle.answers.specs.declared.Refusal.the-variants.{Short, BadLength, WrongCheck, NoRoom, BadContent, BadWord, NoSync, UnknownTail, BadPlace, OutOfRange, UnknownCi, ShortBody, NoSuchChannel, UsedUp, BadStore, UnknownVersion, NotHeld, Unsure, NumbersUsedUp, StoreFull}
 
 abbrev pub numberOf : Refusal → ℕ
 numberOf Short = 1
@@ -20,6 +20,12 @@ numberOf UnknownCi = 11
 numberOf ShortBody = 12
 numberOf NoSuchChannel = 13
 numberOf (UsedUp tried) = 14
+numberOf BadStore = 17
+numberOf UnknownVersion = 18
+numberOf NotHeld = 19
+numberOf Unsure = 20
+numberOf NumbersUsedUp = 21
+numberOf StoreFull = 22
 
 abbrev pub valueOf : Refusal → ℕ
 valueOf Short = 0
@@ -36,3 +42,9 @@ valueOf UnknownCi = 0
 valueOf ShortBody = 0
 valueOf NoSuchChannel = 0
 valueOf (UsedUp tried) = tried
+valueOf BadStore = 0
+valueOf UnknownVersion = 0
+valueOf NotHeld = 0
+valueOf Unsure = 0
+valueOf NumbersUsedUp = 0
+valueOf StoreFull = 0

@@ -1,4 +1,4 @@
-// Every refusal of document 01, "Answer numbers", once: its number, and the one value that it may carry.
+// Every refusal of documents 01 ("Answer numbers") and 02, once: its number, and the one value that it may carry.
 // A call answers its accepted cases or `Refused(Refusal)`, so that a caller passes a refusal on in one arm. What a call
 // can never answer is a theorem about its definition (crates/demands), not a type.
 ghost use mathlib.Core.Path.{_≡_};
@@ -33,6 +33,18 @@ pub enum Refusal {
     NoSuchChannel,
     // The allowance, this many positions, was used up, and positions are left.
     UsedUp(usize),
+    // The bytes are no store.
+    BadStore,
+    // The store is of a version that is not known.
+    UnknownVersion,
+    // The meter is not held.
+    NotHeld,
+    // The meter is unsure: no number of its own was heard.
+    Unsure,
+    // The meter's last number is the largest there is.
+    NumbersUsedUp,
+    // The store would hold more meters than it has room for.
+    StoreFull,
 }
 
 // What a writer answers: the bytes written.
@@ -59,6 +71,12 @@ pub fn number(refusal: Refusal) -> u8
         Refusal::ShortBody => 12,
         Refusal::NoSuchChannel => 13,
         Refusal::UsedUp(_) => 14,
+        Refusal::BadStore => 17,
+        Refusal::UnknownVersion => 18,
+        Refusal::NotHeld => 19,
+        Refusal::Unsure => 20,
+        Refusal::NumbersUsedUp => 21,
+        Refusal::StoreFull => 22,
     }
 }
 
@@ -81,5 +99,11 @@ pub fn value(refusal: Refusal) -> usize
         Refusal::ShortBody => 0,
         Refusal::NoSuchChannel => 0,
         Refusal::UsedUp(tried) => tried,
+        Refusal::BadStore => 0,
+        Refusal::UnknownVersion => 0,
+        Refusal::NotHeld => 0,
+        Refusal::Unsure => 0,
+        Refusal::NumbersUsedUp => 0,
+        Refusal::StoreFull => 0,
     }
 }

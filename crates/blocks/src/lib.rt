@@ -64,7 +64,7 @@ pub fn first_wrong(s: &[u8], first: usize, later: usize, t: usize) -> Checks
 }
 
 // k bytes of src from place `from`, copied to dst from place `at`.
-fn copy_part(src: &[u8], from: usize, k: usize, dst: &mut [u8], at: usize)
+pub fn copy_part(src: &[u8], from: usize, k: usize, dst: &mut [u8], at: usize)
     requires { ⌜ (from + k ≤ length (now src)) × (at + k ≤ length (now dst)) ⌝ }
     ensures { λ r. ⌜ now (dst .exit) ≡ paste (now (dst .entry)) at (drop from (now (src .entry))) k ⌝ }
 {

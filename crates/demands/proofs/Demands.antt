@@ -4,7 +4,9 @@ use mathlib.Core.List.{List, _∷_, map}
 use mathlib.Core.Path.{_≡_, refl, sym, _∙_, ap, subst}
 use Prim.Native.Nat.{ℕ, zero, suc, _<_}
 use lib.Dec.{ltb}
+use native.Mathlib.Omega.{arith}
 use lib.ListN.{length, take, set, replicate}
+use lib.Seq.{take-all}
 use Rattle.answers.specs.declared.Refusal.{Refusal}
 use Rattle.answers.specs.Refusals.{numberOf, valueOf}
 use Rattle.line.specs.Codes.{codeOf}
@@ -29,8 +31,15 @@ use Rattle.frame.proofs.SequenceLaws.{changes-write, changes-answer, edited-las
 use Rattle.radio.proofs.HeardLaws.{heard-exactly}
 use Rattle.radio.proofs.RoundLaws.{sent-heard}
 use Rattle.channels.specs.Listing.{lineAt}
+use Rattle.ground.specs.Bytes.{Bytes}
+use Rattle.address.specs.Keys.{keyBytes, keyAt}
+use Rattle.address.proofs.NameLaws.{take-drop}
+use Rattle.address.proofs.KeyLaws.{keyBytes-keyAt}
+use Rattle.sessions.specs.StoreFile.{metersBytes}
+use Rattle.sessions.proofs.ExactLaws.{fileOf-exactly}
+use Rattle.sessions.proofs.HistoryLaws.{running, restored-afresh}
 use Rattle.kusikhut.specs.Told.{told, refusalPlace}
-use Rattle.demands.specs.Demands.{ChipNumbers, FrameNumbers, MeterNumbers, Plain, AcceptedRows, RefusedRows, InCodes, InHeaders, InBytes, InChips, Changes}
+use Rattle.demands.specs.Demands.{ChipNumbers, FrameNumbers, MeterNumbers, StoreNumbers, Plain, AcceptedRows, RefusedRows, StoreRows, InCodes, InHeaders, InBytes, InChips, Changes, StoreFiles, StoreMeters, StorePromise}
 use Rattle.demands.specs.Cases.{Spells}
 use Rattle.demands.specs.Touched.{Touched}
 use Rattle.demands.proofs.LineRuleLaws as line
@@ -40,6 +49,9 @@ use Rattle.demands.proofs.RadioRuleLaws as radio
 use Rattle.demands.proofs.MeterRuleLaws as meter
 use Rattle.demands.proofs.ChannelRuleLaws as channel
 use Rattle.demands.proofs.TripRuleLaws as trip
+use Rattle.demands.proofs.StoreRuleLaws as store
+use Rattle.demands.proofs.StorePutLaws.{withMeter-puts}
+use Rattle.demands.proofs.StorePromiseLaws.{emptying-within, written-read, restoring-restores, afterAll-within}
 use Rattle.demands.proofs.TouchLaws.{change-touched}
 
 pub chip-numbers : ChipNumbers
@@ -86,6 +98,21 @@ meter-numbers =
       no-band = channel.no-band;
       a-band = channel.a-band;
       with-a-line-feed = channel.with-a-line-feed;
+    }
+
+pub store-numbers : StoreNumbers
+store-numbers =
+    record {
+      making-a-store = store.empty-judged;
+      adding-a-meter = store.add-judged;
+      adding-by-numbers = store.add-by-judged;
+      hearing-a-number = store.hear-judged;
+      issuing-a-number = store.issue-judged;
+      restoring-a-file = store.restore-judged;
+      writing-a-file = store.write-judged;
+      looking-up-a-meter = store.look-up-judged;
+      asking-the-allowance = store.allowance-judged;
+      setting-the-allowance = store.set-allowance-judged;
     }
 
 -- the record of the page, field by field as the letters' own crate has it
@@ -221,3 +248,42 @@ refused-rows =
       receiving = λ r e. ap (told (numberOf r)) (value-0 r e);
       lent-memory = λ f o. refl;
     }
+
+pub store-rows : StoreRows
+store-rows =
+    record {
+      a-number = λ n. refl;
+      no-number = λ r. refl;
+      a-meter = λ m. refl;
+      no-meter = λ r. refl;
+      modes = refl;
+      formats = refl;
+      marks = refl;
+    }
+
+key-received : (name : List ℕ) → Bytes name → length name ≡ 8 → keyBytes (keyAt name 0) ≡ name
+key-received name bytes eight =
+    keyBytes-keyAt name bytes 0
+    ∙ (sym (take-drop 8 name 0 (omega (arith, eight))) ∙ take-all 8 name (omega (arith, eight)))
+
+pub store-files : StoreFiles
+unfolding metersBytes
+store-files =
+    record {
+      accepted-exactly = fileOf-exactly;
+      written-then-read = written-read;
+      as-received = key-received;
+      layout = (refl, refl);
+    }
+
+pub store-meters : StoreMeters
+store-meters =
+    record {
+      one-meter = λ a m st v here. withMeter-puts a m st (v .once) here;
+      restores = restoring-restores;
+      begins-a-store = emptying-within;
+      stays-a-store = afterAll-within;
+    }
+
+pub store-promise : StorePromise
+store-promise = record { running = running; restored = restored-afresh }

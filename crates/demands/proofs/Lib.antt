@@ -8,5 +8,10 @@ pub mod MeterRuleLaws
 pub mod TouchLaws
 pub mod TripRuleLaws
 pub mod ChannelRuleLaws
+pub mod StoreCaseLaws
+pub mod StoreStepLaws
+pub mod StoreRuleLaws
+pub mod StorePutLaws
+pub mod StorePromiseLaws
 pub mod Demands
 pub mod Starred

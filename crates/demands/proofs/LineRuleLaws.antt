@@ -125,6 +125,13 @@ ten Refusal.UnknownCi e = absurd (omega arith)
 ten Refusal.ShortBody e = absurd (omega arith)
 ten Refusal.NoSuchChannel e = absurd (omega arith)
 ten (Refusal.UsedUp v) e = absurd (omega arith)
+-- nor is one of the store
+ten Refusal.BadStore e = absurd (omega arith)
+ten Refusal.UnknownVersion e = absurd (omega arith)
+ten Refusal.NotHeld e = absurd (omega arith)
+ten Refusal.Unsure e = absurd (omega arith)
+ten Refusal.NumbersUsedUp e = absurd (omega arith)
+ten Refusal.StoreFull e = absurd (omega arith)
 
 closed-is : (a : Answer) → isClosed a ≡ true → a ≡ Answer.Refused Refusal.OutOfRange
 closed-is Answer.Ready e = absurd (false≢true e)

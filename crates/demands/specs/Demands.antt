@@ -7,7 +7,7 @@
 -- definition told as a number and a row (kusikhut/specs/Told, Calls). In the crate `entry` calls stand under the page's
 -- own words. The definitions are functions of all lists and numbers, so every input has one answer, and what is said
 -- of a definition here holds of every run of the function; docs/SETTLED.md says what that rests on.
-use mathlib.Core.Bool.{false, cond}
+use mathlib.Core.Bool.{true, false, cond}
 use mathlib.Core.List.{List, [], _∷_, _++_, map}
 use mathlib.Core.Logic.{_↔_, _⊎_}
 use mathlib.Core.Path.{_≡_}
@@ -64,16 +64,30 @@ use Rattle.address.specs.declared.Maker.{Maker}
 use Rattle.address.specs.Letters.{lettersOf}
 use Rattle.filter.specs.declared.Verdict.{Verdict}
 use Rattle.filter.specs.Listed.{verdictOf}
+use Rattle.modes.specs.declared.Mode.{Mode}
+use Rattle.modes.specs.Tables.{modeNumber, formatNumber}
+use Rattle.address.specs.Keys.{keyBytes, keyAt}
+use Rattle.sessions.specs.declared.Meter.{Meter}
+use Rattle.sessions.specs.declared.Value.{Value}
+use Rattle.sessions.specs.declared.Lookup.{Lookup}
+use Rattle.sessions.specs.Meters.{Store, Keep}
+use Rattle.sessions.specs.Changes.{emptyStore, withMeter}
+use Rattle.sessions.specs.StoreFile.{markOf, bytesOf, versionOne, fileOf}
+use Rattle.sessions.specs.StoreCalls.{emptying, adding, addingBy, hearingIn, issuing, restoring, writingStore, lookingUp, allowanceIn, settingAllowance}
+use Rattle.sessions.specs.Valid.{Valid, Within, IsFile}
+use Rattle.sessions.specs.History.{Call, InRanges, afterAll, NoneHeld, Running, Restored}
 use Rattle.channels.specs.declared.listing.Band.{Band}
 use Rattle.channels.specs.declared.listing.Line.{Line}
 use Rattle.channels.specs.declared.plan.Centre.{Centre}
 use Rattle.channels.specs.Table21.{entryOf, channelsOf, quartersOf}
 use Rattle.channels.specs.Plan.{float, rowOf, centreOf}
 use Rattle.channels.specs.Listing.{bandOf, rowsOf, linesFrom, linesOf, lineAt}
-use Rattle.kusikhut.specs.Told.{Told, told, tells, toldUpdated, toldDecoded, toldWord, toldWritten, toldSize, toldFrame, toldSync, toldHeader, toldMaker, toldVerdict, toldLine, toldCentre, toldReception, kindNumber}
+use Rattle.kusikhut.specs.Told.{Told, told, tells, toldUpdated, toldDecoded, toldWord, toldWritten, toldSize, toldFrame, toldSync, toldHeader, toldMaker, toldVerdict, toldValue, toldLookup, toldLine, toldCentre, toldReception, kindNumber}
 use Rattle.demands.specs.Rules.{Judged, JudgedLent}
 use Rattle.demands.specs.Cases.{Spells}
 use Rattle.demands.specs.Ladders as rule
+use Rattle.demands.specs.StoreAfter.{Puts, Restores}
+use Rattle.demands.specs.StoreLadders as store
 use Rattle.demands.specs.Touched.{Touched}
 
 -- Demand 1. Every call answers, whatever it is given, even an empty buffer. Bad input is refused with a number, always
@@ -201,6 +215,42 @@ pub record MeterNumbers : Type 0 where
   -- by channels::band_of
   pub with-a-line-feed : (x : ℕ) → bandOf (x ∷ 10 ∷ []) ≡ bandOf (x ∷ [])
 
+-- The settings store (document 02, 9/14), in memory that the caller owns and lends to each call. Memory and files are
+-- bytes. A meter is named by a number, a: M and A as received (`as-received` below).
+pub record StoreNumbers : Type 0 where
+  -- by store::empty, kusikhut_store_empty
+  pub making-a-store : (s : List ℕ) → JudgedLent Written.Refused s (store.emptyRule s) (emptying s)
+  -- by store::add
+  pub adding-a-meter :
+      (s : List ℕ) → Bytes s → (a : ℕ) (mode : Mode) (format : Format)
+      → JudgedLent Written.Refused s (store.addRule a mode format s) (adding a mode format s)
+  -- by store::add_by_number, kusikhut_store_add
+  pub adding-by-numbers :
+      (s : List ℕ) → Bytes s → (a k j : ℕ) → JudgedLent Written.Refused s (store.addByRule a k j s) (addingBy a k j s)
+  -- by store::hear, kusikhut_store_hear
+  pub hearing-a-number :
+      (s : List ℕ) → Bytes s → (a n : ℕ) → JudgedLent Written.Refused s (store.hearRule a n s) (hearingIn a n s)
+  -- by store::issue, kusikhut_store_issue
+  pub issuing-a-number :
+      (s : List ℕ) → Bytes s → (a : ℕ) → JudgedLent Value.Refused s (store.issueRule a s) (issuing a s)
+  -- by store::restore, kusikhut_store_restore
+  pub restoring-a-file :
+      (s : List ℕ) → Bytes s → (f : List ℕ) → Bytes f
+      → JudgedLent Written.Refused s (store.restoreRule f s) (restoring f s)
+  -- by store::write, kusikhut_store_write
+  pub writing-a-file :
+      (s : List ℕ) → Bytes s → (d : List ℕ)
+      → JudgedLent Written.Refused d (store.writeStoreRule s d) (writingStore s d)
+  -- by store::look_up, kusikhut_store_look_up
+  pub looking-up-a-meter :
+      (s : List ℕ) → Bytes s → (a : ℕ) → Judged Lookup.Refused (store.lookUpRule a s) (lookingUp a s)
+  -- by store::allowance, kusikhut_store_allowance
+  pub asking-the-allowance : (s : List ℕ) → Bytes s → Judged Value.Refused (store.allowanceRule s) (allowanceIn s)
+  -- by store::set_allowance, kusikhut_store_set_allowance
+  pub setting-the-allowance :
+      (s : List ℕ) → Bytes s → (n : ℕ)
+      → JudgedLent Written.Refused s (store.setAllowanceRule n s) (settingAllowance n s)
+
 -- Calls that are never refused.
 pub record Plain : Type 0 where
   -- by crc::check, kusikhut_check
@@ -285,6 +335,21 @@ pub record RefusedRows : Type 1 where
   pub receiving :
       (r : Refusal) → valueOf r ≡ 0 → toldReception (Reception.Refused r) ≡ told (numberOf r) (replicate 7 0)
   pub lent-memory : {A : Type 0} (f : A → Told ℕ) (o : Outcome A) → tells f o .memory ≡ o .memory
+
+-- The rows of the settings store: a number that was issued or asked for, and what is held of a meter, its mode and
+-- format by their numbers. All other calls on it tell its size, as `writing` above.
+pub record StoreRows : Type 0 where
+  pub a-number : (n : ℕ) → toldValue (Value.Accepted n) ≡ told 0 (n ∷ [])
+  pub no-number : (r : Refusal) → toldValue (Value.Refused r) ≡ told (numberOf r) (valueOf r ∷ [])
+  pub a-meter :
+      (m : Meter)
+      → toldLookup (Lookup.Accepted m)
+      ≡ told 0 (modeNumber (m .mode) ∷ formatNumber (m .format) ∷ m .number ∷ markOf (m .unsure) ∷ [])
+  pub no-meter : (r : Refusal) → toldLookup (Lookup.Refused r) ≡ told (numberOf r) (valueOf r ∷ 0 ∷ 0 ∷ 0 ∷ [])
+  pub modes :
+      map modeNumber (Mode.R ∷ Mode.S ∷ Mode.T ∷ Mode.C ∷ Mode.N ∷ Mode.F ∷ []) ≡ 0 ∷ 1 ∷ 2 ∷ 3 ∷ 4 ∷ 5 ∷ []
+  pub formats : map formatNumber (Format.A ∷ Format.B ∷ []) ≡ 0 ∷ 1 ∷ []
+  pub marks : map markOf (false ∷ true ∷ []) ≡ 0 ∷ 1 ∷ []
 
 -- Demand 2, the line codes by themselves: decoding what was encoded gives back the bytes, encoding what was decoded the
 -- chips. Nothing that is no code word is ever decoded: `decoding` above. An output may be longer than a received buffer
@@ -379,3 +444,56 @@ pub record Changes : Type 0 where
       (checkPlaceOf f n k)
   pub nothing-else-mends :
       (c old new k : ℕ) (r : Updated) → c < 65536 → k ≤ 125 → Mends c old new k r → r ≡ updating c old new k
+
+-- Document 02, 9/14, the store on disk. A file f is read as the store st exactly when st is valid (at most 64 meters,
+-- none of them twice, each number within its bytes) and f is what writing st gives, or its version 1 form, where the
+-- allowance is 16,384. Nothing else is read. Reading what was written gives the same store. A meter's number is the
+-- eight bytes of M and A as received. `layout` has one store in both versions, byte by byte.
+pub record StoreFiles : Type 0 where
+  pub accepted-exactly : (f : List ℕ) (st : Store) → Bytes f → (fileOf f ≡ Keep st) ↔ IsFile f st
+  pub written-then-read :
+      (s : List ℕ) (st : Store) → Bytes s → Within s st
+      → (d : List ℕ) (size : ℕ) → writingStore s d .answer ≡ Written.Accepted size
+      → fileOf (take size (writingStore s d .memory)) ≡ Keep st
+  pub as-received : (name : List ℕ) → Bytes name → length name ≡ 8 → keyBytes (keyAt name 0) ≡ name
+  pub layout :
+      let m : Meter = record {
+        address = 0x9315785634123303;
+        mode = Mode.C;
+        format = Format.B;
+        number = 0x01020304;
+        unsure = true;
+      } in
+      let bytes : List ℕ = 8 ∷ 0x93 ∷ 0x15 ∷ 0x78 ∷ 0x56 ∷ 0x34 ∷ 0x12 ∷ 0x33 ∷ 0x03
+      ∷ 1 ∷ 3 ∷ 1 ∷ 1 ∷ 4 ∷ 0x01 ∷ 0x02 ∷ 0x03 ∷ 0x04 ∷ 1 ∷ 1 ∷ [] in
+      (bytesOf (record { meters = m ∷ []; allowance = 0x05060708 })
+      ≡ 2 ∷ 4 ∷ 0x05 ∷ 0x06 ∷ 0x07 ∷ 0x08 ∷ 1 ∷ 1 ∷ bytes)
+      × (versionOne (m ∷ []) ≡ 1 ∷ 1 ∷ 1 ∷ bytes)
+
+-- What becomes of the meters. A call on one meter changes that one alone (`withMeter` of the ladders): it keeps its
+-- place, or comes behind the last. A restore that was accepted keeps the collector's own unsure marks and the larger
+-- number of each meter, all else is the file's; a held meter that is not in the file stays, a new one comes in unsure.
+-- A store that was made is empty, and memory that holds a store holds one after any calls: no meter stands twice, and
+-- there are never more than 64.
+pub record StoreMeters : Type 0 where
+  pub one-meter :
+      (a : ℕ) (m : Meter) (st : Store) → Valid st → m .address ≡ a → Puts a m st (withMeter a m st)
+  pub restores :
+      (s : List ℕ) (st : Store) → Bytes s → Within s st
+      → (f : List ℕ) (file : Store) → Bytes f → IsFile f file
+      → (size : ℕ) → restoring f s .answer ≡ Written.Accepted size
+      → (new : Store) × (Within (restoring f s .memory) new × Restores st file new)
+  pub begins-a-store :
+      (s : List ℕ) (size : ℕ) → Bytes s → emptying s .answer ≡ Written.Accepted size
+      → Within (emptying s .memory) emptyStore × NoneHeld (emptying s .memory)
+  pub stays-a-store :
+      (s : List ℕ) (st : Store) (cs : List Call) → Bytes s → InRanges cs → Within s st
+      → (new : Store) × Within (afterAll s cs) new
+
+-- What is promised over any calls, refused ones and restores of any bytes among them (sessions/specs/History). In a
+-- running collector each number that is issued for a meter is above every one issued for it or heard from it before,
+-- and none is issued for one that is unsure. After a restore into an empty one nothing is issued for a meter until one
+-- of its numbers is heard; from then on each number is above all heard and all issued since that restore.
+pub record StorePromise : Type 0 where
+  pub running : Running
+  pub restored : Restored

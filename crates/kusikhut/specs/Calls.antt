@@ -20,7 +20,9 @@ use Rattle.radio.specs.Sending.{sendingOf}
 use Rattle.header.specs.declared.layout.HeaderKind.{HeaderKind}
 use Rattle.header.specs.declared.layout.Header.{Header}
 use Rattle.header.specs.HeaderWrites.{headerWritingOf}
-use Rattle.kusikhut.specs.Told.{Told, tells, toldDecoded, toldWritten, toldFrame, toldReception}
+use Rattle.address.specs.Keys.{keyAt}
+use Rattle.sessions.specs.StoreCalls.{emptying, addingBy, hearingIn, issuing, restoring, settingAllowance, writingStore}
+use Rattle.kusikhut.specs.Told.{Told, tells, toldDecoded, toldWritten, toldFrame, toldReception, toldValue}
 
 abbrev pub callDecode : Code → List ℕ → ℕ → ℕ → List ℕ → Outcome (Told ℕ)
 callDecode code s k n d = tells toldDecoded (decoded (codeOf code) s k n d)
@@ -59,3 +61,24 @@ headerOf k cc acc m2 sn a2 crc =
 
 abbrev pub callHeader : Header → List ℕ → Outcome (Told ℕ)
 callHeader h d = tells toldWritten (headerWritingOf h d)
+
+abbrev pub callEmpty : List ℕ → Outcome (Told ℕ)
+callEmpty s = tells toldWritten (emptying s)
+
+abbrev pub callAdd : List ℕ → List ℕ → ℕ → ℕ → Outcome (Told ℕ)
+callAdd s meter k j = tells toldWritten (addingBy (keyAt meter 0) k j s)
+
+abbrev pub callHear : List ℕ → List ℕ → ℕ → Outcome (Told ℕ)
+callHear s meter n = tells toldWritten (hearingIn (keyAt meter 0) n s)
+
+abbrev pub callIssue : List ℕ → List ℕ → Outcome (Told ℕ)
+callIssue s meter = tells toldValue (issuing (keyAt meter 0) s)
+
+abbrev pub callRestore : List ℕ → List ℕ → Outcome (Told ℕ)
+callRestore s file = tells toldWritten (restoring file s)
+
+abbrev pub callSetAllowance : List ℕ → ℕ → Outcome (Told ℕ)
+callSetAllowance s n = tells toldWritten (settingAllowance n s)
+
+abbrev pub callWriteStore : List ℕ → List ℕ → Outcome (Told ℕ)
+callWriteStore s d = tells toldWritten (writingStore s d)

@@ -29,6 +29,10 @@ use Rattle.address.specs.declared.Maker.{Maker}
 use Rattle.header.specs.HeaderReads.{fieldsOf}
 use Rattle.header.specs.declared.reading.HeaderReading.{HeaderReading}
 use Rattle.filter.specs.declared.Verdict.{Verdict}
+use Rattle.modes.specs.Tables.{modeNumber, formatNumber}
+use Rattle.sessions.specs.declared.Value.{Value}
+use Rattle.sessions.specs.declared.Lookup.{Lookup}
+use Rattle.sessions.specs.StoreFile.{markOf}
 use Rattle.channels.specs.declared.plan.Centre.{Centre}
 use Rattle.channels.specs.declared.listing.Line.{Line}
 use Rattle.channels.specs.Plan.{float}
@@ -99,6 +103,17 @@ abbrev pub toldVerdict : Verdict → Told ℕ
 toldVerdict Verdict.Wanted = told 0 (1 ∷ [])
 toldVerdict Verdict.Unwanted = told 0 (0 ∷ [])
 toldVerdict (Verdict.Refused r) = toldRefusal 1 0 r
+
+-- a number that was asked for
+abbrev pub toldValue : Value → Told ℕ
+toldValue (Value.Accepted n) = told 0 (n ∷ [])
+toldValue (Value.Refused r) = toldRefusal 1 0 r
+
+-- mode, format, number, unsure mark
+abbrev pub toldLookup : Lookup → Told ℕ
+toldLookup (Lookup.Accepted m) =
+    told 0 (modeNumber (m .mode) ∷ formatNumber (m .format) ∷ m .number ∷ markOf (m .unsure) ∷ [])
+toldLookup (Lookup.Refused r) = toldRefusal 4 0 r
 
 -- index, channel, hertz; past the band's last line there is no such channel
 abbrev pub toldLine : Line → Told ℕ

@@ -1,4 +1,5 @@
 //! The words of a command line: those in order, and the options `name=value`. Each fault says which word is wrong and why.
+use std::path::Path;
 
 pub struct Args<'a> {
     words: Vec<(usize, &'a str)>,
@@ -30,6 +31,12 @@ impl<'a> Args<'a> {
         args
     }
 
+    /// Arguments behind the first one, none of them an option: what they name may have any characters.
+    pub fn plain(arguments: &'a [String]) -> Args<'a> {
+        let words = arguments.iter().enumerate().skip(1).map(|(at, word)| (at + 1, word.as_str())).collect();
+        Args { words, options: vec![], next: 0, last: arguments.len() }
+    }
+
     pub fn word(&mut self, what: &str) -> Result<(usize, &'a str), String> {
         let word = self.words.get(self.next).copied();
         self.next += 1;
@@ -55,6 +62,22 @@ impl<'a> Args<'a> {
     pub fn number(&mut self, what: &str) -> Result<usize, String> {
         let (at, word) = self.word(what)?;
         decimal(word).map_err(|why| format!("word {at}: {what} {why}"))
+    }
+
+    /// A number of four bytes.
+    pub fn short_number(&mut self, what: &str) -> Result<u32, String> {
+        let (at, word) = self.word(what)?;
+        let number = decimal(word).map_err(|why| format!("word {at}: {what} {why}"))?;
+        number.try_into().map_err(|_| format!("word {at}: {what} is at most {}", u32::MAX))
+    }
+
+    /// A file's name. One that is no text was changed on its way here, and would be another file's.
+    pub fn path(&mut self, what: &str) -> Result<&'a Path, String> {
+        let (at, word) = self.word(what)?;
+        if word.contains(char::REPLACEMENT_CHARACTER) {
+            return Err(format!("word {at}: {what} is no UTF-8 text"));
+        }
+        Ok(Path::new(word))
     }
 
     pub fn choice<T: Copy>(&mut self, what: &str, from: &[(&str, T)]) -> Result<T, String> {

@@ -1,4 +1,5 @@
 //! `kusikhut`: one command from its arguments, or one command a line from standard input; one line of answer for each.
+//! Commands on a store are taken from the arguments alone, so that lines from elsewhere touch no file.
 //!
 //! The program parses and prints; every decision is the proved library's.
 mod args;
@@ -12,7 +13,11 @@ use std::process::ExitCode;
 fn main() -> ExitCode {
     let given: Vec<String> = std::env::args_os().skip(1).map(|a| a.to_string_lossy().into_owned()).collect();
     let mut out = io::stdout().lock();
-    let wrote = if given.is_empty() { converse(&mut out) } else { answer(&given.join(" "), &mut out) };
+    let wrote = match given.first().map(String::as_str) {
+        None => converse(&mut out),
+        Some("store") => tell(commands::store::run(&given), &mut out),
+        Some(_) => answer(&given.join(" "), &mut out),
+    };
     match wrote.and_then(|()| out.flush()) {
         // A reader that went away (as `head` does) is no error of ours.
         Err(why) if why.kind() != io::ErrorKind::BrokenPipe => {
@@ -46,7 +51,11 @@ fn answer(line: &str, out: &mut impl Write) -> io::Result<()> {
     if line.starts_with('#') {
         return writeln!(out, "{line}");
     }
-    match commands::run(line) {
+    tell(commands::run(line), out)
+}
+
+fn tell(answer: Result<String, String>, out: &mut impl Write) -> io::Result<()> {
+    match answer {
         Ok(text) => writeln!(out, "{text}"),
         Err(fault) => writeln!(out, "error {fault}"),
     }

@@ -1,4 +1,5 @@
-//! The one line of answer: number, name in words, then `field=value` in a fixed order.
+//! The one line of answer: number, name in words, then `field=value` in a fixed order; where it lists things, a line of
+//! such fields for each below it.
 use crate::args::Lent;
 use kusikhut::Refusal;
 use std::fmt::Write;
@@ -25,6 +26,14 @@ impl Reply {
     pub fn field(mut self, name: &str, value: impl std::fmt::Display) -> Reply {
         // Writing to a String cannot fail.
         let _ = write!(self.0, " {name}={value}");
+        self
+    }
+
+    /// Lines below the answer, set in: each with the fields that `tell` gives it.
+    pub fn list<T>(mut self, things: &[T], tell: impl Fn(Reply, &T) -> Reply) -> Reply {
+        for thing in things {
+            let _ = write!(self.0, "\n {}", tell(Reply(String::new()), thing).0);
+        }
         self
     }
 

@@ -1,7 +1,8 @@
 //! A safe wrapper of the proved wireless M-Bus link layer (EN 13757-4:2019).
 //!
 //! Every function takes any slices and numbers and answers: the accepted values, or the [`Refusal`] that docs/ANSWERS.md
-//! lists. A refusal leaves lent memory as it was. Nothing here decides anything: the proved library does.
+//! lists. A refusal leaves lent memory as it was. Nothing here decides anything: the proved library does. [`StoreFile`]
+//! adds to it what no library of pure calls can have: a store that outlives the power.
 
 mod address;
 mod channels;
@@ -13,6 +14,9 @@ mod line;
 mod radio;
 mod raw;
 mod refusal;
+mod replaced;
+mod store;
+mod store_file;
 mod sync;
 
 pub use address::letters;
@@ -24,6 +28,8 @@ pub use header::{access, Access, Header};
 pub use line::Code;
 pub use radio::{receive, receive_manchester, Received};
 pub use refusal::Refusal;
+pub use store::{Meter, Mode, Settings, Store, STORE_SIZE};
+pub use store_file::{read_store, Restored, StoreFault, StoreFile};
 pub use sync::{search, Found, Kind};
 
 /// Lends `call` a row of results; tells what `accepted` makes of the row, or the refusal.

@@ -52,6 +52,15 @@ extern "C" {
     pub fn kusikhut_access(cc: u8) -> u8;
     pub fn kusikhut_letters(m: u16, r: *mut u64) -> u8;
     pub fn kusikhut_filter(e: *const u8, count: usize, c: *const u8, cl: usize, r: *mut u64) -> u8;
+    pub fn kusikhut_store_empty(s: *mut u8, sl: usize, r: *mut u64) -> u8;
+    pub fn kusikhut_store_add(s: *mut u8, sl: usize, meter: *const u8, mode: u8, format: u8, r: *mut u64) -> u8;
+    pub fn kusikhut_store_hear(s: *mut u8, sl: usize, meter: *const u8, number: u32, r: *mut u64) -> u8;
+    pub fn kusikhut_store_issue(s: *mut u8, sl: usize, meter: *const u8, r: *mut u64) -> u8;
+    pub fn kusikhut_store_restore(s: *mut u8, sl: usize, file: *const u8, fl: usize, r: *mut u64) -> u8;
+    pub fn kusikhut_store_write(s: *const u8, sl: usize, o: *mut u8, ol: usize, r: *mut u64) -> u8;
+    pub fn kusikhut_store_look_up(s: *const u8, sl: usize, meter: *const u8, r: *mut u64) -> u8;
+    pub fn kusikhut_store_allowance(s: *const u8, sl: usize, r: *mut u64) -> u8;
+    pub fn kusikhut_store_set_allowance(s: *mut u8, sl: usize, allowance: u32, r: *mut u64) -> u8;
     pub fn kusikhut_row(index: usize, row: *mut f64);
     pub fn kusikhut_centre(index: usize, channel: usize, centre: *mut f64) -> u8;
     pub fn kusikhut_band_line(b: *const u8, bl: usize, k: usize, r: *mut u64) -> u8;

@@ -16,9 +16,12 @@ pub const COMMANDS: &[Command] = &[
 fn letters(mut a: Args) -> Result<Reply, String> {
     let m = u16::from_be_bytes(a.fixed::<2>("M")?);
     a.end()?;
-    let text = match kusikhut::letters(m) {
+    Ok(Reply::accepted().field("letters", letters_of(m)))
+}
+
+pub fn letters_of(m: u16) -> String {
+    match kusikhut::letters(m) {
         Some(letters) => letters.iter().map(|&b| b as char).collect(),
         None => String::from("none"),
-    };
-    Ok(Reply::accepted().field("letters", text))
+    }
 }

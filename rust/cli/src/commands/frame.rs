@@ -35,7 +35,7 @@ pub const COMMANDS: &[Command] = &[
     },
 ];
 
-const FORMATS: [(&str, Format); 2] = [("A", Format::A), ("B", Format::B)];
+pub const FORMATS: [(&str, Format); 2] = [("A", Format::A), ("B", Format::B)];
 
 fn read(mut a: Args) -> Result<Reply, String> {
     let format = a.choice("FORMAT", &FORMATS)?;

@@ -8,6 +8,7 @@ mod frame;
 mod header;
 mod line;
 mod radio;
+pub mod store;
 mod sync;
 
 use crate::args::Args;
@@ -42,6 +43,9 @@ pub fn run(line: &str) -> Result<String, String> {
     if name == "help" {
         return Ok(help());
     }
+    if name == "store" {
+        return Err("word 1: store works on files and is taken from the arguments alone: kusikhut store FILE ..".into());
+    }
     let command = commands()
         .find(|c| c.name == name)
         .ok_or_else(|| format!("word 1: there is no command {name}; help lists them"))?;
@@ -61,8 +65,7 @@ fn help() -> String {
     for c in commands() {
         text += &format!("\n{} {}\n    {}\n    {}\n", c.name, c.usage, c.does, c.example);
     }
-    text.pop();
-    text
+    text + "\n" + &store::help()
 }
 
 #[cfg(test)]

@@ -1,8 +1,12 @@
 //! Runs the proved library and the second program on the same cases and compares numbers, every field of the rows of
 //! results, and every lent byte.
 //!
-//! - `compare SEED COUNT` takes every small input, and makes COUNT cases from SEED; then a quarter of them through the
-//!   safe wrapper, which must say what the library said.
+//! - `compare SEED COUNT` takes every small input, and makes COUNT cases from SEED; then the first quarter of them and
+//!   the small inputs through the safe wrapper, which must say what the library said. Calls of the settings store are
+//!   left out there: the wrapper's store takes no memory from outside.
+//! - `compare sequences SEED COUNT` makes COUNT sequences of calls of the settings store, each on one memory, and holds
+//!   the promise of request 9/14 against the answers; then a store of the wrapper lives through the same calls, but for
+//!   those that it cannot be asked, and is held against the second program.
 //! - `compare words SEED COUNT` runs the program `words`, and with it the chip reader, on its edges and COUNT inputs.
 //! - `compare rerun` reads cases from standard input, one a line, and prints what both make of each.
 mod proved;
@@ -15,19 +19,22 @@ mod wrapped;
 use proved::Proved;
 use second::case::Case;
 use second::compare::{compare, compare_cases, compare_small_inputs};
-use second::generator::words_cases;
+use second::generator::{small_inputs, words_cases, Cases};
+use second::hidden::compare_hidden;
 use second::implementation::Second;
+use second::sequences::{compare_sequences, CALLS};
 use std::io::BufRead;
 use std::process::ExitCode;
-use wrapped::Wrapped;
+use wrapped::{Wrapped, WrappedStore};
 
 fn main() -> ExitCode {
     let words: Vec<String> = std::env::args().skip(1).collect();
     let done = match &words[..] {
         [one] if one == "rerun" => rerun(),
         [seed, count] => run(seed, count),
+        [one, seed, count] if one == "sequences" => run_sequences(seed, count),
         [one, seed, count] if one == "words" => run_words(seed, count),
-        _ => Err("usage: compare SEED COUNT | compare words SEED COUNT | compare rerun".into()),
+        _ => Err("usage: compare [sequences | words] SEED COUNT | compare rerun".into()),
     };
     match done {
         Ok(()) => ExitCode::SUCCESS,
@@ -51,9 +58,29 @@ fn run(seed: &str, count: &str) -> Result<(), String> {
     let (cases, inputs) = (made.total(), small.total());
     println!("tests/second: no difference in {cases} cases from seed {seed} and {inputs} small inputs");
     let differ = |d| format!("the proved library (first) and its wrapper differ, seed {seed}:\n{d}");
-    compare_small_inputs(&Proved, &Wrapped).map_err(differ)?;
-    let wrapped = compare(&Proved, &Wrapped, seed, count / 4).map_err(differ)?;
-    println!("tests/second: the wrapper says the same in {} of them and every small input", wrapped.total());
+    let of_others = |case: &Case| !case.operation.of_store();
+    let small = compare_cases(&Proved, &Wrapped, small_inputs()).map_err(differ)?;
+    let quarter = Cases::new(seed).take(count as usize / 4).filter(of_others);
+    let made = compare_cases(&Proved, &Wrapped, quarter).map_err(differ)?;
+    let (cases, inputs) = (made.total(), small.total());
+    println!("tests/second: the wrapper says the same in {cases} of them and {inputs} inputs, no call of the store");
+    Ok(())
+}
+
+fn run_sequences(seed: &str, count: &str) -> Result<(), String> {
+    let (seed, count) = (number(seed)?, number(count)?);
+    let made = compare_sequences(&Proved, &Second, seed, count)
+        .map_err(|t| format!("the proved library (first) and the second program:\n{t}"))?;
+    println!("{made}");
+    println!("tests/second: no difference and no broken promise in {count} sequences from seed {seed}");
+    let kept = compare_hidden(WrappedStore::empty, &Second, seed, count)
+        .map_err(|t| format!("the wrapper's store (first) and the second program:\n{t}"))?;
+    println!("{kept}");
+    let (calls, all) = (kept.total(), CALLS * count);
+    println!(
+        "tests/second: the wrapper's store says the same as the second program in {calls} of these {all} calls, and is \
+        written and listed alike after each; the others need a memory, mode or format that it cannot be handed"
+    );
     Ok(())
 }
 

@@ -8,7 +8,8 @@ use second::chips::Code;
 use second::filter::Entries;
 use second::frames::Format;
 use second::headers::{Header, HeaderKind};
-use second::implementation::Implementation;
+use second::implementation::{Implementation, StoreCalls};
+use second::store::Address;
 use second::sync::Kind;
 use std::io::Write;
 use std::process::{Command, Stdio};
@@ -28,6 +29,15 @@ pub fn fenced<T>(lent: &mut [u8], call: impl FnOnce(&mut [u8]) -> T) -> T {
     let fences = memory[..GUARD].iter().chain(&memory[end..]);
     assert!(fences.copied().all(|byte| byte == FENCE), "the library wrote outside of what it was lent");
     lent.copy_from_slice(&memory[GUARD..end]);
+    got
+}
+
+/// Shows `call` a copy of `bytes` that stands between two fences: not one of them may change.
+pub fn shown<T>(bytes: &[u8], call: impl FnOnce(*const u8, usize) -> T) -> T {
+    let mut copy = bytes.to_vec();
+    // The pointer may be written to, so that whoever does it is seen.
+    let got = fenced(&mut copy, |copy| call(copy.as_mut_ptr(), copy.len()));
+    assert!(copy == bytes, "the library wrote into what it was only shown");
     got
 }
 
@@ -212,5 +222,56 @@ impl Implementation for Proved {
         let done = program.wait_with_output().expect("the program ends");
         assert!(done.status.success(), "tools/program words failed: `rt check words` builds the program");
         done.stdout
+    }
+
+    fn store_calls(&self) -> Option<&dyn StoreCalls> {
+        Some(self)
+    }
+}
+
+// The memory of a store stands between fences in every call. Where C has it as `const`, it must stay as it was.
+impl StoreCalls for Proved {
+    fn store_empty(&self, store: &mut [u8]) -> Answer {
+        fenced(store, |s| told(1, |r| unsafe { raw::kusikhut_store_empty(s.as_mut_ptr(), s.len(), r) }))
+    }
+
+    fn store_add(&self, store: &mut [u8], meter: Address, mode: u8, format: u8) -> Answer {
+        let m = meter.as_ptr();
+        fenced(store, |s| told(1, |r| unsafe { raw::kusikhut_store_add(s.as_mut_ptr(), s.len(), m, mode, format, r) }))
+    }
+
+    fn store_hear(&self, store: &mut [u8], meter: Address, number: u32) -> Answer {
+        let m = meter.as_ptr();
+        fenced(store, |s| told(1, |r| unsafe { raw::kusikhut_store_hear(s.as_mut_ptr(), s.len(), m, number, r) }))
+    }
+
+    fn store_issue(&self, store: &mut [u8], meter: Address) -> Answer {
+        let m = meter.as_ptr();
+        fenced(store, |s| told(1, |r| unsafe { raw::kusikhut_store_issue(s.as_mut_ptr(), s.len(), m, r) }))
+    }
+
+    fn store_restore(&self, store: &mut [u8], file: &[u8]) -> Answer {
+        let (f, fl) = (file.as_ptr(), file.len());
+        fenced(store, |s| told(1, |r| unsafe { raw::kusikhut_store_restore(s.as_mut_ptr(), s.len(), f, fl, r) }))
+    }
+
+    fn store_write(&self, store: &[u8], out: &mut [u8]) -> Answer {
+        let call = |s, sl, o: &mut [u8], r| unsafe { raw::kusikhut_store_write(s, sl, o.as_mut_ptr(), o.len(), r) };
+        shown(store, |s, sl| fenced(out, |o| told(1, |r| call(s, sl, o, r))))
+    }
+
+    fn store_look_up(&self, store: &[u8], meter: Address) -> Answer {
+        let m = meter.as_ptr();
+        shown(store, |s, sl| told(4, |r| unsafe { raw::kusikhut_store_look_up(s, sl, m, r) }))
+    }
+
+    fn store_allowance(&self, store: &[u8]) -> Answer {
+        shown(store, |s, sl| told(1, |r| unsafe { raw::kusikhut_store_allowance(s, sl, r) }))
+    }
+
+    fn store_set_allowance(&self, store: &mut [u8], allowance: u32) -> Answer {
+        fenced(store, |s| {
+            told(1, |r| unsafe { raw::kusikhut_store_set_allowance(s.as_mut_ptr(), s.len(), allowance, r) })
+        })
     }
 }

@@ -8,7 +8,9 @@ use second::chips::Code;
 use second::filter::Entries;
 use second::frames::Format;
 use second::headers::{Header, HeaderKind};
-use second::implementation::Implementation;
+use second::hidden::{Asked, HiddenStore};
+use second::implementation::{Implementation, StoreCalls};
+use second::store::{Meter, Mode, Store};
 use second::sync::Kind;
 
 pub struct Wrapped;
@@ -102,6 +104,39 @@ fn header_row((h, length): (library::Header, u64)) -> [u64; 14] {
     let [a, b, c, d, e, f] = a2.map(u64::from);
     let [first, last] = crc.map(u64::from);
     [length, h.ci().into(), cc.into(), acc.into(), m2.into(), a, b, c, d, e, f, sn.into(), first, last]
+}
+
+fn mode(mode: Mode) -> library::Mode {
+    match mode {
+        Mode::R => library::Mode::R,
+        Mode::S => library::Mode::S,
+        Mode::T => library::Mode::T,
+        Mode::C => library::Mode::C,
+        Mode::N => library::Mode::N,
+        Mode::F => library::Mode::F,
+    }
+}
+
+/// A meter of the wrapper's as the second program has it.
+fn meter(m: library::Meter) -> Meter {
+    let mode = match m.mode {
+        library::Mode::R => Mode::R,
+        library::Mode::S => Mode::S,
+        library::Mode::T => Mode::T,
+        library::Mode::C => Mode::C,
+        library::Mode::N => Mode::N,
+        library::Mode::F => Mode::F,
+    };
+    let format = match m.format {
+        library::Format::A => Format::A,
+        library::Format::B => Format::B,
+    };
+    Meter { address: m.address, mode, format, number: m.number, unsure: m.unsure }
+}
+
+fn meter_row(m: library::Meter) -> [u64; 4] {
+    let Meter { mode, format, number, unsure, .. } = meter(m);
+    [mode as u64, format as u64, number.into(), unsure.into()]
 }
 
 /// A float that is no whole number of quarter kilohertz is shown as one that no row has.
@@ -204,5 +239,61 @@ impl Implementation for Wrapped {
     /// The wrapper has no chip reader.
     fn words(&self, input: &[u8]) -> Vec<u8> {
         Proved.words(input)
+    }
+
+    /// The wrapper's store takes no memory from outside: `WrappedStore` is compared in sequences.
+    fn store_calls(&self) -> Option<&dyn StoreCalls> {
+        None
+    }
+}
+
+/// The wrapper's settings store. Of a change the wrapper tells no more than its success: the size in the row is that of
+/// the store as it is written then.
+pub struct WrappedStore(library::Store);
+
+impl WrappedStore {
+    pub fn empty() -> WrappedStore {
+        WrappedStore(library::Store::empty())
+    }
+
+    fn changed(&self, result: Result<(), Refusal>) -> Answer {
+        one(result, |()| self.0.bytes().len() as u64)
+    }
+}
+
+impl HiddenStore for WrappedStore {
+    fn answer(&mut self, asked: Asked) -> Answer {
+        let WrappedStore(store) = self;
+        match asked {
+            Asked::Add(meter, m, f) => {
+                let added = store.add(meter, mode(m), format(f));
+                self.changed(added)
+            }
+            Asked::Hear(meter, number) => {
+                let heard = store.hear(meter, number);
+                self.changed(heard)
+            }
+            Asked::Issue(meter) => one(store.issue(meter), u64::from),
+            Asked::Restore(file) => {
+                let restored = store.restore(file);
+                self.changed(restored)
+            }
+            Asked::Write(out) => one(fenced(out, |out| store.write(out)), |size| size),
+            Asked::LookUp(meter) => answer(store.look_up(meter), meter_row, |_| 0),
+            Asked::Allowance => Answer::accepted(&[store.allowance().into()]),
+            Asked::SetAllowance(allowance) => {
+                store.set_allowance(allowance);
+                self.changed(Ok(()))
+            }
+        }
+    }
+
+    fn file(&self) -> Vec<u8> {
+        self.0.bytes()
+    }
+
+    fn settings(&self) -> Store {
+        let held = self.0.settings();
+        Store { allowance: held.allowance, meters: held.meters.into_iter().map(meter).collect() }
     }
 }

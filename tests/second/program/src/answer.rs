@@ -1,7 +1,9 @@
-//! The answer numbers of document 01 and the values that come with them.
+//! The answer numbers of document 01 and of request 9/14, and the values that
+//! come with them.
 
 /// Why an operation refused. Each case carries exactly what 01's table
-/// "Answer numbers" returns besides, and nothing else.
+/// "Answer numbers" returns besides, and nothing else. From 17 on the numbers
+/// are those of 9/14, which names no value beside any of them.
 #[derive(Clone, Copy, Debug, PartialEq, Eq)]
 pub enum Refusal {
     /// 1: bytes or chips end too early.
@@ -32,10 +34,22 @@ pub enum Refusal {
     NoSuchChannel,
     /// 14: allowance used up, positions left, no sync.
     AllowanceUsedUp { tried: usize },
+    /// 17: malformed store.
+    MalformedStore,
+    /// 18: unknown version.
+    UnknownVersion,
+    /// 19: meter not held.
+    MeterNotHeld,
+    /// 20: unsure: no number until one is heard.
+    Unsure,
+    /// 21: numbers used up.
+    NumbersUsedUp,
+    /// 22: store full.
+    StoreFull,
 }
 
 impl Refusal {
-    /// Document 01's number.
+    /// The number that the documents give it.
     pub fn number(self) -> u64 {
         match self {
             Refusal::Ends => 1,
@@ -52,6 +66,12 @@ impl Refusal {
             Refusal::HeaderEnds => 12,
             Refusal::NoSuchChannel => 13,
             Refusal::AllowanceUsedUp { .. } => 14,
+            Refusal::MalformedStore => 17,
+            Refusal::UnknownVersion => 18,
+            Refusal::MeterNotHeld => 19,
+            Refusal::Unsure => 20,
+            Refusal::NumbersUsedUp => 21,
+            Refusal::StoreFull => 22,
         }
     }
 

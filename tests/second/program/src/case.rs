@@ -9,7 +9,8 @@ use crate::chips::Code;
 use crate::filter::Entries;
 use crate::frames::Format;
 use crate::headers::{Header, HeaderKind};
-use crate::implementation::Implementation;
+use crate::implementation::{Implementation, StoreCalls};
+use crate::store::Address;
 use crate::sync::Kind;
 
 /// The operations that are compared.
@@ -36,6 +37,15 @@ pub enum Operation {
     ChannelRow,
     ChannelCentre,
     BandLine,
+    StoreEmpty,
+    StoreAdd,
+    StoreHear,
+    StoreIssue,
+    StoreRestore,
+    StoreWrite,
+    StoreLookUp,
+    StoreAllowance,
+    StoreSetAllowance,
     Words,
 }
 
@@ -58,10 +68,11 @@ const U16: Shape = Shape::UpTo(u16::MAX as u64);
 const U32: Shape = Shape::UpTo(u32::MAX as u64);
 const SIZE: Shape = Shape::UpTo(usize::MAX as u64);
 const BYTES: Shape = Shape::Bytes;
+const METER: Shape = Shape::Exactly(8);
 
 impl Operation {
     /// The calls: what the library exports.
-    pub const CALLS: [Operation; 21] = [
+    pub const CALLS: [Operation; 30] = [
         Operation::Decode,
         Operation::Encode,
         Operation::Word,
@@ -83,11 +94,25 @@ impl Operation {
         Operation::ChannelRow,
         Operation::ChannelCentre,
         Operation::BandLine,
+        Operation::StoreEmpty,
+        Operation::StoreAdd,
+        Operation::StoreHear,
+        Operation::StoreIssue,
+        Operation::StoreRestore,
+        Operation::StoreWrite,
+        Operation::StoreLookUp,
+        Operation::StoreAllowance,
+        Operation::StoreSetAllowance,
     ];
 
     /// The calls, and the program that reads words with a chip reader.
     pub fn all() -> impl Iterator<Item = Operation> {
         Operation::CALLS.into_iter().chain([Operation::Words])
+    }
+
+    /// It is one of the settings store, and is lent or shown the store's memory.
+    pub fn of_store(self) -> bool {
+        self.arguments()[0] == ("store", BYTES)
     }
 
     /// The answer numbers that it can give.
@@ -114,6 +139,15 @@ impl Operation {
             Operation::ChannelRow => &[0],
             Operation::ChannelCentre => &[0, 13],
             Operation::BandLine => &[0, 13],
+            Operation::StoreEmpty => &[0, 4],
+            Operation::StoreAdd => &[0, 17, 18, 22],
+            Operation::StoreHear => &[0, 17, 18, 19],
+            Operation::StoreIssue => &[0, 17, 18, 19, 20, 21],
+            Operation::StoreRestore => &[0, 17, 18, 22],
+            Operation::StoreWrite => &[0, 4, 17, 18],
+            Operation::StoreLookUp => &[0, 17, 18, 19],
+            Operation::StoreAllowance => &[0, 17, 18],
+            Operation::StoreSetAllowance => &[0, 17, 18],
             // The refusals that end its readers; 0 where it names none.
             Operation::Words => &[0, 1, 6, 10],
         }
@@ -142,6 +176,15 @@ impl Operation {
             Operation::ChannelRow => "channel_row",
             Operation::ChannelCentre => "channel_centre",
             Operation::BandLine => "band_line",
+            Operation::StoreEmpty => "store_empty",
+            Operation::StoreAdd => "store_add",
+            Operation::StoreHear => "store_hear",
+            Operation::StoreIssue => "store_issue",
+            Operation::StoreRestore => "store_restore",
+            Operation::StoreWrite => "store_write",
+            Operation::StoreLookUp => "store_look_up",
+            Operation::StoreAllowance => "store_allowance",
+            Operation::StoreSetAllowance => "store_set_allowance",
             Operation::Words => "words",
         }
     }
@@ -205,7 +248,37 @@ impl Operation {
             Operation::ChannelRow => &[("index", SIZE)],
             Operation::ChannelCentre => &[("index", SIZE), ("channel", SIZE)],
             Operation::BandLine => &[("input", BYTES), ("k", SIZE)],
+            Operation::StoreEmpty | Operation::StoreAllowance => &[("store", BYTES)],
+            Operation::StoreAdd => &[
+                ("store", BYTES),
+                ("meter", METER),
+                ("mode", BYTE),
+                ("format", BYTE),
+            ],
+            Operation::StoreHear => &[("store", BYTES), ("meter", METER), ("number", U32)],
+            Operation::StoreIssue | Operation::StoreLookUp => &[("store", BYTES), ("meter", METER)],
+            Operation::StoreRestore => &[("store", BYTES), ("file", BYTES)],
+            Operation::StoreWrite => &[("store", BYTES), ("out", BYTES)],
+            Operation::StoreSetAllowance => &[("store", BYTES), ("allowance", U32)],
             Operation::Words => &[("input", BYTES)],
+        }
+    }
+
+    /// The argument that the call may write to, if there is one. The memory of a
+    /// store is only looked at by the calls that have it as `const` in C.
+    fn lent(self) -> Option<&'static str> {
+        match self {
+            Operation::FrameChange => Some("frame"),
+            Operation::StoreEmpty
+            | Operation::StoreAdd
+            | Operation::StoreHear
+            | Operation::StoreIssue
+            | Operation::StoreRestore
+            | Operation::StoreSetAllowance => Some("store"),
+            _ => {
+                let mut names = self.arguments().iter().map(|(name, _)| *name);
+                names.find(|&name| name == "out")
+            }
         }
     }
 }
@@ -412,14 +485,19 @@ impl Case {
         entries
     }
 
+    /// The meter that a call of the settings store is about.
+    pub fn meter(&self) -> Address {
+        let mut meter = [0; 8];
+        meter.copy_from_slice(self.bytes("meter"));
+        meter
+    }
+
     /// The memory that the case lends, as it is before the call.
     fn lent(&self) -> Vec<u8> {
-        for (name, _) in self.operation.arguments() {
-            if *name == "out" || *name == "frame" {
-                return self.bytes(name).to_vec();
-            }
+        match self.operation.lent() {
+            Some(name) => self.bytes(name).to_vec(),
+            None => Vec::new(),
         }
-        Vec::new()
     }
 
     /// Runs the case with an implementation.
@@ -476,6 +554,22 @@ impl Case {
                 with.channel_centre(self.size("index"), self.size("channel"))
             }
             Operation::BandLine => with.band_line(self.bytes("input"), self.size("k")),
+            Operation::StoreEmpty => store(with).store_empty(out),
+            Operation::StoreAdd => {
+                let (mode, format) = (self.byte("mode"), self.byte("format"));
+                store(with).store_add(out, self.meter(), mode, format)
+            }
+            Operation::StoreHear => {
+                store(with).store_hear(out, self.meter(), self.number("number") as u32)
+            }
+            Operation::StoreIssue => store(with).store_issue(out, self.meter()),
+            Operation::StoreRestore => store(with).store_restore(out, self.bytes("file")),
+            Operation::StoreWrite => store(with).store_write(self.bytes("store"), out),
+            Operation::StoreLookUp => store(with).store_look_up(self.bytes("store"), self.meter()),
+            Operation::StoreAllowance => store(with).store_allowance(self.bytes("store")),
+            Operation::StoreSetAllowance => {
+                store(with).store_set_allowance(out, self.number("allowance") as u32)
+            }
             Operation::Words => {
                 lent = with.words(self.bytes("input"));
                 Answer {
@@ -486,6 +580,11 @@ impl Case {
         };
         Outcome { answer, lent }
     }
+}
+
+/// The calls of the settings store. Whoever has none is not asked (`of_store`).
+fn store(with: &dyn Implementation) -> &dyn StoreCalls {
+    with.store_calls().expect("it takes memory for a store")
 }
 
 /// The answer number that ends a text of `words`: the first one of its last

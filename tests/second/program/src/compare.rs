@@ -3,11 +3,11 @@
 // A difference is large and occurs once a run: nothing is gained by boxing it.
 #![allow(clippy::result_large_err)]
 
-use std::collections::BTreeMap;
+use std::collections::{BTreeMap, BTreeSet};
 use std::fmt;
 
 use crate::case::{Case, Operation, Outcome};
-use crate::generator::{small_inputs, Cases};
+use crate::generator::{small_inputs, store_inputs, Cases};
 use crate::implementation::Implementation;
 
 /// How many cases each operation had with each answer number.
@@ -37,12 +37,13 @@ pub fn compare(
     compare_cases(a, b, Cases::new(seed).take(count as usize))
 }
 
-/// The same for every input of the operations that have few of them.
+/// The same for every input of the operations that have few of them, and for the
+/// small inputs of the settings store.
 pub fn compare_small_inputs(
     a: &dyn Implementation,
     b: &dyn Implementation,
 ) -> Result<Stats, Difference> {
-    compare_cases(a, b, small_inputs())
+    compare_cases(a, b, small_inputs().into_iter().chain(store_inputs()))
 }
 
 /// The same for cases of the caller's choice.
@@ -79,7 +80,8 @@ pub fn compare_outcomes(
 }
 
 impl Stats {
-    fn add(&mut self, operation: Operation, number: u64) {
+    /// One case more.
+    pub fn add(&mut self, operation: Operation, number: u64) {
         *self.counts.entry((operation, number)).or_insert(0) += 1;
     }
 
@@ -99,7 +101,13 @@ impl Stats {
 
     /// How many cases an operation had.
     pub fn cases(&self, operation: Operation) -> u64 {
-        (0..=14).map(|number| self.count(operation, number)).sum()
+        let numbers = self.numbers(operation).into_iter();
+        numbers.map(|number| self.count(operation, number)).sum()
+    }
+
+    /// The answer numbers that any operation gave, ascending.
+    fn columns(&self) -> BTreeSet<u64> {
+        self.counts.keys().map(|(_, number)| *number).collect()
     }
 
     /// All cases together.
@@ -108,17 +116,18 @@ impl Stats {
     }
 }
 
-/// A table: a row for each operation, a column for each answer number.
+/// A table: a row for each operation, a column for each answer number that was
+/// given.
 impl fmt::Display for Stats {
     fn fmt(&self, f: &mut fmt::Formatter) -> fmt::Result {
-        write!(f, "{:<18}", "operation")?;
-        for number in 0..=14 {
+        write!(f, "{:<20}", "operation")?;
+        for number in self.columns() {
             write!(f, "{number:>7}")?;
         }
         writeln!(f, "{:>9}", "cases")?;
         for operation in Operation::all().filter(|&operation| self.cases(operation) > 0) {
-            write!(f, "{:<18}", operation.name())?;
-            for number in 0..=14 {
+            write!(f, "{:<20}", operation.name())?;
+            for number in self.columns() {
                 match self.count(operation, number) {
                     0 => write!(f, "{:>7}", ".")?,
                     count => write!(f, "{count:>7}")?,

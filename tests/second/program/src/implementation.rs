@@ -10,6 +10,7 @@ use crate::frames::{self, Format, Sizes};
 use crate::headers::{self, Header};
 use crate::radio::{self, Reception};
 use crate::reader;
+use crate::store::{self, Address, Meter};
 use crate::sync::{self, Found, Kind};
 
 /// An implementation of the link layer. Every method is total.
@@ -93,6 +94,44 @@ pub trait Implementation {
 
     /// What the program `words` prints for this standard input.
     fn words(&self, input: &[u8]) -> Vec<u8>;
+
+    /// The calls of the settings store. None where no memory can be lent to them:
+    /// such a store is compared in sequences (`hidden.rs`) and not by cases.
+    fn store_calls(&self) -> Option<&dyn StoreCalls>;
+}
+
+/// The calls of the settings store (9/14). The caller owns the memory: a store in
+/// version 2 of its file, then bytes that mean nothing.
+///
+/// Every call but `store_empty` first judges the memory: 17, 18, 17. What is said
+/// of refusals below comes after that. No refusal has a value.
+pub trait StoreCalls {
+    /// Refusal 4. Row: the store's bytes.
+    fn store_empty(&self, store: &mut [u8]) -> Answer;
+
+    /// Refusals 17, 22. Row: the store's bytes.
+    fn store_add(&self, store: &mut [u8], meter: Address, mode: u8, format: u8) -> Answer;
+
+    /// Refusal 19. Row: the store's bytes.
+    fn store_hear(&self, store: &mut [u8], meter: Address, number: u32) -> Answer;
+
+    /// Refusals 19, 20, 21. Row: the number.
+    fn store_issue(&self, store: &mut [u8], meter: Address) -> Answer;
+
+    /// Refusals: the file's 17, 18, 17; 22. Row: the store's bytes.
+    fn store_restore(&self, store: &mut [u8], file: &[u8]) -> Answer;
+
+    /// Refusal 4. Row: bytes written.
+    fn store_write(&self, store: &[u8], out: &mut [u8]) -> Answer;
+
+    /// Refusal 19. Row: mode, format, number, 1 if unsure.
+    fn store_look_up(&self, store: &[u8], meter: Address) -> Answer;
+
+    /// Row: the allowance.
+    fn store_allowance(&self, store: &[u8]) -> Answer;
+
+    /// Row: the store's bytes.
+    fn store_set_allowance(&self, store: &mut [u8], allowance: u32) -> Answer;
 }
 
 /// The second program.
@@ -159,6 +198,15 @@ fn header_row(header: Header) -> [u64; 14] {
     row[12] = header.payload_crc[0] as u64;
     row[13] = header.payload_crc[1] as u64;
     row
+}
+
+fn meter_row(meter: Meter) -> [u64; 4] {
+    [
+        meter.mode as u64,
+        meter.format as u64,
+        meter.number as u64,
+        meter.unsure as u64,
+    ]
 }
 
 impl Implementation for Second {
@@ -261,5 +309,47 @@ impl Implementation for Second {
 
     fn words(&self, input: &[u8]) -> Vec<u8> {
         reader::listing(input).into_bytes()
+    }
+
+    fn store_calls(&self) -> Option<&dyn StoreCalls> {
+        Some(self)
+    }
+}
+
+impl StoreCalls for Second {
+    fn store_empty(&self, store: &mut [u8]) -> Answer {
+        one(store::empty(store))
+    }
+
+    fn store_add(&self, store: &mut [u8], meter: Address, mode: u8, format: u8) -> Answer {
+        one(store::add(store, meter, mode, format))
+    }
+
+    fn store_hear(&self, store: &mut [u8], meter: Address, number: u32) -> Answer {
+        one(store::hear(store, meter, number))
+    }
+
+    fn store_issue(&self, store: &mut [u8], meter: Address) -> Answer {
+        one(store::issue(store, meter).map(|number| number as usize))
+    }
+
+    fn store_restore(&self, store: &mut [u8], file: &[u8]) -> Answer {
+        one(store::restore(store, file))
+    }
+
+    fn store_write(&self, store: &[u8], out: &mut [u8]) -> Answer {
+        one(store::write(store, out))
+    }
+
+    fn store_look_up(&self, store: &[u8], meter: Address) -> Answer {
+        answer(store::look_up(store, meter), meter_row, |_| 0)
+    }
+
+    fn store_allowance(&self, store: &[u8]) -> Answer {
+        one(store::allowance(store).map(|allowance| allowance as usize))
+    }
+
+    fn store_set_allowance(&self, store: &mut [u8], allowance: u32) -> Answer {
+        one(store::set_allowance(store, allowance))
     }
 }

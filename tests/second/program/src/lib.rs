@@ -1,11 +1,13 @@
 //! The second program: the collector's link layer, written a second time from
-//! document 01 ("Link layer rules for the collector") and EN 13757-4:2019.
+//! document 01 ("Link layer rules for the collector"), EN 13757-4:2019, and
+//! request 9/14 of document 02 ("Settings that keep a backup honest").
 //!
 //! It exists to be compared with the proved library. Its value lies in being
 //! independent and obvious, so it is slow on purpose: chips are lists of
 //! `bool`, a check is a long division on a list of bits, a changed frame is
-//! read and written again. "01" in a comment is document 01; bare numbers such
-//! as 12.5.3 are clauses of the standard.
+//! read and written again. "01" in a comment is document 01; "9/14" is that
+//! request of document 02; bare numbers such as 12.5.3 are clauses of the
+//! standard.
 //!
 //! Each operation first works out its whole result in memory of its own and
 //! touches the lent memory last. So a refusal leaves the lent memory as it was.
@@ -19,13 +21,17 @@ pub mod frames;
 pub mod headers;
 pub mod radio;
 pub mod reader;
+pub mod store;
 pub mod sync;
 
 pub mod case;
 pub mod compare;
 pub mod generator;
+pub mod hidden;
 pub mod implementation;
+pub mod promise;
 pub mod random;
+pub mod sequences;
 
 #[cfg(test)]
 mod tests;

@@ -3,8 +3,10 @@
 //! - `second cases SEED COUNT` makes cases and prints them, one a line.
 //! - `second rerun` reads cases from standard input, one a line, and prints
 //!   what the second program makes of each.
+//! - `second sequence SEED INDEX` prints the calls of a sequence of the settings
+//!   store, one a line, each as a case with the memory that it finds.
 //! - `second stats SEED COUNT` makes cases and prints how often each operation
-//!   gave each answer number.
+//!   gave each answer number; `second sequences SEED COUNT` does so for sequences.
 
 use std::io::BufRead;
 use std::process::ExitCode;
@@ -13,6 +15,10 @@ use second::case::Case;
 use second::compare::compare;
 use second::generator::Cases;
 use second::implementation::Second;
+use second::sequences::{cases_of, compare_sequences};
+
+const USAGE: &str = "usage: second cases SEED COUNT | second rerun | second stats SEED COUNT | \
+    second sequence SEED INDEX | second sequences SEED COUNT";
 
 fn main() -> ExitCode {
     let arguments: Vec<String> = std::env::args().skip(1).collect();
@@ -20,10 +26,10 @@ fn main() -> ExitCode {
     let done = match words[..] {
         ["rerun"] => rerun(),
         ["cases", seed, count] => cases(seed, count),
+        ["sequence", seed, index] => sequence(seed, index),
+        ["sequences", seed, count] => sequences(seed, count),
         ["stats", seed, count] => stats(seed, count),
-        _ => Err(
-            "usage: second cases SEED COUNT | second rerun | second stats SEED COUNT".to_string(),
-        ),
+        _ => Err(USAGE.to_string()),
     };
     match done {
         Ok(()) => ExitCode::SUCCESS,
@@ -54,9 +60,23 @@ fn cases(seed: &str, count: &str) -> Result<(), String> {
     Ok(())
 }
 
+fn sequence(seed: &str, index: &str) -> Result<(), String> {
+    for case in cases_of(&Second, number(seed)?, number(index)?) {
+        println!("{case}");
+    }
+    Ok(())
+}
+
 fn stats(seed: &str, count: &str) -> Result<(), String> {
     let (seed, count) = (number(seed)?, number(count)?);
     let stats = compare(&Second, &Second, seed, count).map_err(|d| d.to_string())?;
+    println!("{stats}");
+    Ok(())
+}
+
+fn sequences(seed: &str, count: &str) -> Result<(), String> {
+    let (seed, count) = (number(seed)?, number(count)?);
+    let stats = compare_sequences(&Second, &Second, seed, count).map_err(|t| t.to_string())?;
     println!("{stats}");
     Ok(())
 }

@@ -6,11 +6,16 @@ mod bytes;
 mod chips;
 mod names;
 mod radio;
+pub mod sequence;
+mod store;
+mod store_inputs;
 
 use crate::case::{Argument, Case, Operation};
 use crate::frames::Format;
 use crate::implementation::Implementation;
 use crate::random::Random;
+
+pub use store_inputs::store_inputs;
 
 /// Numbers whose product with 6, 8, 12 or 16, or whose sum with a small number,
 /// does not fit: what wraps around anywhere shows here.
@@ -79,6 +84,14 @@ pub fn case(random: &mut Random, operation: Operation) -> Case {
             names::band_input(random).into(),
             names::band_place(random).into(),
         ],
+        Operation::StoreEmpty => store::empty(random),
+        Operation::StoreAdd => store::add(random),
+        Operation::StoreHear => store::hear(random),
+        Operation::StoreIssue | Operation::StoreLookUp => store::of_a_meter(random),
+        Operation::StoreRestore => store::restore(random),
+        Operation::StoreWrite => store::write(random),
+        Operation::StoreAllowance => store::allowance(random),
+        Operation::StoreSetAllowance => store::set_allowance(random),
         Operation::Words => chips::words(random),
     };
     Case::new(operation, arguments)

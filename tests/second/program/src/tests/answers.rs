@@ -33,6 +33,12 @@ fn refusals_have_their_numbers_and_values() {
         (Refusal::HeaderEnds, 12, 0),
         (Refusal::NoSuchChannel, 13, 0),
         (Refusal::AllowanceUsedUp { tried: 5 }, 14, 5),
+        (Refusal::MalformedStore, 17, 0),
+        (Refusal::UnknownVersion, 18, 0),
+        (Refusal::MeterNotHeld, 19, 0),
+        (Refusal::Unsure, 20, 0),
+        (Refusal::NumbersUsedUp, 21, 0),
+        (Refusal::StoreFull, 22, 0),
     ];
     for (refusal, number, value) in all {
         is(Answer::refused(refusal, 1, 0), number, &[value]);

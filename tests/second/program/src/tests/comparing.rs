@@ -3,6 +3,7 @@
 
 use std::collections::BTreeSet;
 
+use super::store_flaws::StoreFlaw;
 use crate::answer::Answer;
 use crate::case::{Case, Operation, Outcome};
 use crate::check;
@@ -10,14 +11,14 @@ use crate::chips::{decode_list, list_of, number_of, Code, THREE_OF_SIX};
 use crate::compare::{compare, compare_cases, compare_outcomes, compare_small_inputs};
 use crate::filter::Entries;
 use crate::frames::Format;
-use crate::generator::{case, one_of_each, small_inputs, words_cases, Cases};
+use crate::generator::{case, one_of_each, small_inputs, store_inputs, words_cases, Cases};
 use crate::headers::Header;
-use crate::implementation::{Implementation, Second};
+use crate::implementation::{Implementation, Second, StoreCalls};
 use crate::random::Random;
 use crate::sync::{search, Kind, SYNC_CHIPS};
 
-const SEED: u64 = 20190;
-const COUNT: u64 = 21 * 1500;
+pub const SEED: u64 = 20190;
+pub const COUNT: u64 = 30 * 1500;
 
 #[test]
 fn second_program_agrees_with_itself_and_meets_every_number() {
@@ -35,7 +36,7 @@ fn second_program_agrees_with_itself_and_meets_every_number() {
     }
     let table = stats.to_string();
     assert_eq!(table.lines().count(), 1 + Operation::CALLS.len() + 1);
-    assert!(table.ends_with("31500 cases"));
+    assert!(table.ends_with("45000 cases"));
 }
 
 #[test]
@@ -47,7 +48,13 @@ fn small_inputs_are_all_there() {
     assert_eq!(stats.count(Operation::ChannelCentre, 0), 103);
     assert_eq!(stats.count(Operation::ChannelRow, 0), 21);
     assert_eq!(stats.count(Operation::BandLine, 0), 2 * 103);
-    assert_eq!(stats.total() as usize, small_inputs().len());
+    let of_the_store = store_inputs().count();
+    assert_eq!(stats.total() as usize, small_inputs().len() + of_the_store);
+    for operation in Operation::CALLS {
+        if operation.of_store() {
+            assert_eq!(stats.numbers(operation), operation.numbers());
+        }
+    }
 }
 
 #[test]
@@ -58,12 +65,12 @@ fn same_seed_same_cases() {
     assert_eq!(first, again);
     assert_ne!(first, other);
     // The seed 0 is a seed like the others.
-    assert_ne!(Cases::new(0).nth(3), Cases::new(0).nth(24));
+    assert_ne!(Cases::new(0).nth(3), Cases::new(0).nth(33));
 }
 
 #[test]
 fn a_case_survives_as_a_line_of_text() {
-    for case in Cases::new(11).take(21 * 200) {
+    for case in Cases::new(11).take(30 * 200) {
         let line = case.to_string();
         assert!(!line.contains('\n'));
         assert_eq!(Case::from_text(&line), Ok(case));
@@ -91,6 +98,10 @@ fn a_line_of_text_is_read_strictly() {
         "decode code=3 chips= start=0 n=0 out=",
         "channel_row index=10000000000000000",
         "filter entries=00 count=0 content=",
+        "store_issue store= meter=00",
+        "store_hear store= meter=0000000000000000 number=100000000",
+        "store_add store= meter=0000000000000000 mode=100 format=0",
+        "store_write store=",
     ] {
         assert!(Case::from_text(wrong).is_err(), "{wrong}");
     }
@@ -201,6 +212,7 @@ fn edges_of_the_outputs_are_met() {
         (Operation::ReceiveManchester, Some(4)),
         (Operation::Send, Some(0)),
         (Operation::HeaderWrite, Some(0)),
+        (Operation::StoreWrite, Some(0)),
     ] {
         let outcomes = outcomes(operation, 2000);
         // How much longer than its result an accepted output was.
@@ -229,7 +241,7 @@ fn edges_of_the_outputs_are_met() {
 /// Ways to be wrong: the errors that document 01 tells of, and some that are
 /// harder to see.
 #[derive(Clone, Copy, Debug, PartialEq)]
-enum Flaw {
+pub enum Flaw {
     None,
     /// Error 1: A counts its checks in L, so another size follows.
     ChecksCountedInA,
@@ -307,10 +319,13 @@ enum Flaw {
     ReaderStartIsCut,
     /// Refusal 6 shows how many words came before.
     ReaderWordCounted,
+    /// Wrong in a call of the settings store.
+    Store(StoreFlaw),
 }
 
-/// The second program with one flaw.
-struct Broken(Flaw);
+/// The second program with one flaw. Its calls of the settings store stand in
+/// `store_flaws.rs`.
+pub struct Broken(pub Flaw);
 
 impl Broken {
     fn has(&self, flaw: Flaw) -> bool {
@@ -565,6 +580,10 @@ impl Implementation for Broken {
         };
         changed.into_bytes()
     }
+
+    fn store_calls(&self) -> Option<&dyn StoreCalls> {
+        Some(self)
+    }
 }
 
 /// The last lines that begin with a number, their place moved on.
@@ -628,7 +647,7 @@ const FLAWS: [(Flaw, Operation); 30] = [
 
 #[test]
 fn every_flaw_is_found() {
-    assert!(compare(&Second, &Broken(Flaw::None), SEED, 2100).is_ok());
+    assert!(compare(&Second, &Broken(Flaw::None), SEED, 3000).is_ok());
     for (flaw, operation) in FLAWS {
         let found = compare(&Second, &Broken(flaw), SEED, COUNT);
         let difference = found.expect_err(&format!("{flaw:?} was not found"));
@@ -684,7 +703,7 @@ fn every_field_of_every_row_is_compared() {
             }
         }
     }
-    assert_eq!(fields, 242);
+    assert_eq!(fields, 288);
 }
 
 #[test]

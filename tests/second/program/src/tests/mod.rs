@@ -4,8 +4,11 @@ mod annex_c;
 mod answers;
 mod comparing;
 mod edges;
+mod hidden;
 mod orders;
 mod round_trips;
+mod store;
+mod store_flaws;
 
 use crate::chips::packed;
 

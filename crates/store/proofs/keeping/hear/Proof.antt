@@ -1,0 +1,63 @@
+-- `keeping::hear` meets its contract: the memory is judged first. Assumes nothing.
+use mathlib.Core.Path.{_∙_, sym}
+use native.Mathlib.Omega.{arith}
+use borrow.Author.Needs.{needs}
+use Rattle.answers.specs.declared.Written.{Written}
+use Rattle.sessions.specs.Changes.{hearing}
+use Rattle.store.proofs.IndexLaws.{indexed-none}
+use Rattle.store.proofs.KeptLaws.{refused-memory}
+use Rattle.store.proofs.keeping.hear.Statement.{statement}
+use Rattle.store.proofs.keeping.hear.Tie as tie
+
+slice-aggregate-in-memory : tie.Need-slice-aggregate-in-memory
+slice-aggregate-in-memory c = search needs
+
+in-memory-requires : tie.Need-in-memory-requires
+in-memory-requires c κs = (omega arith, indexed-none (c .before .before .before .args .store .now) 8)
+
+enum-known-why : tie.Need-enum-known-why
+enum-known-why c = search needs
+
+enum-known-count : tie.Need-enum-known-count
+enum-known-count c = search needs
+
+slice-aggregate-hear-in : tie.Need-slice-aggregate-hear-in
+slice-aggregate-hear-in c = search needs
+
+hear-in-requires : tie.Need-hear-in-requires
+hear-in-requires c κs =
+    let count = c .before .before .before in
+    let told = count .before .before .before .in-memory .ensures in
+    let is = count .count .given .1 in
+    (sym (told .0) ∙ is, (omega arith, told .1 _ is))
+
+same-length : tie.Need-same-length
+same-length c = search needs
+
+returns : tie.Need-returns
+returns c =
+    let call = c .before .before .before .before in
+    let a = call .before .before .before .before .args in
+    refused-memory (a .store .now) (call .in-memory .ensures .0) (c .before .why .given .1) Written.Refused _
+    (hearing (a .address) (a .number))
+
+same-length-2 : tie.Need-same-length-2
+same-length-2 c = search needs
+
+returns-2 : tie.Need-returns-2
+returns-2 c = search needs
+
+pub hear-spec : {M : Type 1} → statement M
+hear-spec =
+    tie.close
+    (tie.spec
+    slice-aggregate-in-memory
+    in-memory-requires
+    enum-known-why
+    enum-known-count
+    slice-aggregate-hear-in
+    hear-in-requires
+    same-length
+    returns
+    same-length-2
+    returns-2)

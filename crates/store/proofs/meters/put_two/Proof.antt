@@ -1,0 +1,25 @@
+-- `meters::put_two` meets its contract. Assumes nothing.
+use native.Mathlib.Numerals.{add-one}
+use native.Mathlib.Omega.{arith}
+use lib.ListN.{length-set}
+use borrow.Author.Needs.{needs}
+use Rattle.store.proofs.meters.put_two.Statement.{statement}
+use Rattle.store.proofs.meters.put_two.Tie as tie
+
+slice-write-out : tie.Need-slice-write-out
+slice-write-out c = search needs
+
+add-out : tie.Need-add-out
+add-out c = search needs
+
+slice-write-out-2 : tie.Need-slice-write-out-2
+slice-write-out-2 c = simp length-set (omega arith)
+
+same-length : tie.Need-same-length
+same-length c = search needs
+
+returns : tie.Need-returns
+returns c = simp add-one
+
+pub put-two-spec : {M : Type 1} → statement M
+put-two-spec = tie.close (tie.spec slice-write-out add-out slice-write-out-2 same-length returns)
