@@ -5,6 +5,8 @@
  *   bench count NAME SIDE TIMES    so many calls of one side, ours or other, for bench/run to count instructions */
 #define _POSIX_C_SOURCE 199309L
 #include "../include/kusikhut.h"
+#include "correction_rows.h"
+#include "numbers.h"
 #include "store_rows.h"
 #include "twins.h"
 #include <stdio.h>
@@ -20,14 +22,8 @@ static volatile uint64_t sink;
 static uint64_t r[7];
 static size_t a, b;
 
-/* Inputs that do not depend on the time: a small generator with a fixed start. */
 static uint32_t state = 20261115;
-static uint8_t next_byte(void) {
-    state ^= state << 13;
-    state ^= state >> 17;
-    state ^= state << 5;
-    return (uint8_t)(state >> 11);
-}
+static uint8_t next_byte(void) { return (uint8_t)(next_number(&state) >> 3); }
 
 /* Kept apart, so that no call is optimised away or mixed with another. */
 #define NOINLINE static __attribute__((noinline))
@@ -58,6 +54,7 @@ NOINLINE void update_other(void) { sink += twin_check_after(span, 126, 0, (uint8
 
 typedef void (*Call)(void);
 #define AGAINST_STORE "C: one pass, in place"
+#define AGAINST_LOGS "C, logarithm tables"
 static const struct {
     const char *name, *ours, *against;
     Call first, second;
@@ -88,6 +85,14 @@ static const struct {
     {"restore_new", "64 meters: restore into an empty store", AGAINST_STORE, store_restore_new_ours,
      store_restore_new_other, 2.0},
     {"empty", "an empty store", AGAINST_STORE, store_empty_ours, store_empty_other, 2.0},
+    {"checks20", "check bytes of 20", AGAINST_LOGS, correction_checks20_ours, correction_checks20_other, 0.9},
+    {"checks223", "check bytes of 223", AGAINST_LOGS, correction_checks223_ours, correction_checks223_other, 0.8},
+    {"correct", "correction of a 223-byte A frame", "C, table check and logarithms", correction_write_ours,
+     correction_write_other, 1.0},
+#ifdef LIBFEC
+    {"libfec20", "check bytes of 20", "libfec", correction_checks20_ours, correction_checks20_libfec, 0.22},
+    {"libfec223", "check bytes of 223", "libfec", correction_checks223_ours, correction_checks223_libfec, 0.20},
+#endif
 };
 enum { ROWS = sizeof rows / sizeof *rows };
 
@@ -133,6 +138,7 @@ static void prepare(void) {
     if (kusikhut_send_t_a(content, sizeof content, chips, sizeof chips, r) != 0) exit(1);
     chips_len = r[0];
     store_sized(64);
+    correction_prepare();
 }
 
 static int same_word(uint8_t (*first)(const uint8_t *, size_t, size_t, uint64_t *),
@@ -198,7 +204,7 @@ static void growth(void) {
 
 int main(int argc, char **argv) {
     prepare();
-    if (!same_answers() || (argc == 1 && !store_same())) {
+    if (!same_answers() || (argc == 1 && !(store_same() && correction_same()))) {
         puts("the twins answer otherwise: nothing was measured");
         return 1;
     }
@@ -214,8 +220,8 @@ int main(int argc, char **argv) {
     for (size_t i = 0; i < ROWS; i++) {
         double m1, m2;
         medians(rows[i].first, rows[i].second, &m1, &m2);
-        printf("| %s | %s | %.1f | %.1f | %.2f | %.1f | %s |\n", rows[i].ours, rows[i].against, m1, m2, m1 / m2, rows[i].most,
-               m1 / m2 <= rows[i].most ? "met" : "missed");
+        printf("| %s | %s | %.1f | %.1f | %.2f | %.2f | %s |\n", rows[i].ours, rows[i].against, m1, m2, m1 / m2,
+               rows[i].most, m1 / m2 <= rows[i].most ? "met" : "missed");
     }
     growth();
     return 0;

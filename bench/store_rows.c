@@ -2,6 +2,7 @@
  * the dearest for whoever searches from the front. Each hearing brings a larger number, so that it is stored. */
 #include "store_rows.h"
 #include "../include/kusikhut.h"
+#include "numbers.h"
 #include "store_twin.h"
 #include <string.h>
 
@@ -45,12 +46,7 @@ BOTH(restore_new, k->store[7] = 0, restore, k->store, ROOM, file, file_len)
 BOTH(empty, , empty, k->out, ROOM)
 
 static uint32_t state;
-static uint32_t below(uint32_t n) {
-    state ^= state << 13;
-    state ^= state >> 17;
-    state ^= state << 5;
-    return (state >> 8) % n;
-}
+static uint32_t below(uint32_t n) { return next_number(&state) % n; }
 
 /* The memories hold the meters, all sure; the file has them in another order. */
 static void fill(void) {

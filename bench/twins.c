@@ -96,17 +96,28 @@ int twin_decode_three_of_six(const uint8_t *chips, size_t len, size_t start, siz
 
 static size_t size_a(size_t n) { return n + 3 + 2 * ((n - 9 + 15) / 16); }
 
-int twin_read_a(const uint8_t *s, size_t len, uint8_t *out, size_t out_len, size_t *n) {
+int twin_judge_a(const uint8_t *s, size_t len, size_t *size, size_t *wrong) {
     if (len == 0) return 1;
-    size_t l = s[0];
-    if (l < 10) return 2;
-    if (len < size_a(l)) return 1;
-    for (size_t at = 0, left = l + 1, k = 10; left > 0; k = left < 16 ? left : 16) {
+    if (s[0] < 10) return 2;
+    *size = size_a(s[0]);
+    if (len < *size) return 1;
+    for (size_t at = 0, left = s[0] + 1u, k = 10; left > 0; k = left < 16 ? left : 16) {
         uint16_t c = twin_check(s + at, k);
-        if (s[at + k] != c >> 8 || s[at + k + 1] != (c & 255)) return 3;
+        if (s[at + k] != c >> 8 || s[at + k + 1] != (c & 255)) {
+            *wrong = (at + 6) / 18 + 1; /* the first block has 12 bytes, each later one 18 */
+            return 3;
+        }
         at += k + 2;
         left -= k;
     }
+    return 0;
+}
+
+int twin_read_a(const uint8_t *s, size_t len, uint8_t *out, size_t out_len, size_t *n) {
+    size_t size, wrong;
+    int refused = twin_judge_a(s, len, &size, &wrong);
+    if (refused) return refused;
+    size_t l = s[0];
     if (out_len < l) return 4;
     memcpy(out, s + 1, 9);
     for (size_t at = 12, done = 9; done < l;) {

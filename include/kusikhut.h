@@ -19,6 +19,7 @@
  *   13 no such channel                14 allowance used up, positions left, no sync
  *   17 malformed store                18 store of unknown version     19 meter not held
  *   20 meter unsure                   21 session numbers used up      22 store full
+ *   23 over 223 bytes, too long for correction bytes                24 correction header announces another code
  * The numbers with each function below stand in the order in which they are judged; docs/ANSWERS.md says more of them.
  * A refusal (any number but 0) changes no byte of `out`, `frame` or `store`. `results` is always written whole: the
  * values named below in this order, zero where the answer has no such value. A refusal shows at most one value, so the
@@ -88,6 +89,30 @@ uint8_t kusikhut_write_b(const uint8_t *content, size_t content_len, uint8_t *ou
  * change. */
 uint8_t kusikhut_change_a(uint8_t *frame, size_t frame_len, size_t place, uint8_t byte, uint64_t results[3]);
 uint8_t kusikhut_change_b(uint8_t *frame, size_t frame_len, size_t place, uint8_t byte, uint64_t results[3]);
+
+/* Correction bytes for update frames (12.8): behind a frame stand a header of two bytes and 32 check bytes of
+ * Reed-Solomon (255, 223), by which a receiver that knows the frame's length can mend up to 16 wrong bytes of frame and
+ * check bytes together. Nothing here mends, and they make no frame accepted. Whether a frame has them is not told by
+ * the frame (12.8.2.1), and not every mode may send them (Table 41): both are the caller's to know. The standard draws
+ * attention to a patent on 12.8 (its introduction): see docs/CORRECTION.md.
+ *
+ * Writing the frame that `bytes` begin with, the header 21h 04h, and the check bytes: 0, or the frame's 1 (empty), 2,
+ * 1, 3; 23 if the frame has over 223 bytes; 4. results[0]: bytes written, KUSIKHUT_CORRECTION_SIZE more than the frame
+ * has; for 3 the first wrong block from 1. Bytes of out after them stay. */
+#define KUSIKHUT_CORRECTION_SIZE 34
+uint8_t kusikhut_correction_write_a(const uint8_t *bytes, size_t bytes_len, uint8_t *out, size_t out_len,
+                                    uint64_t results[1]);
+uint8_t kusikhut_correction_write_b(const uint8_t *bytes, size_t bytes_len, uint8_t *out, size_t out_len,
+                                    uint64_t results[1]);
+
+/* The 32 check bytes alone, of any bytes, highest power first: 0, or 23 if they are over 223; 4. results[0]: 32. Bytes
+ * of out after them stay. Zero bytes before the word do not change them, but count among the 223. */
+uint8_t kusikhut_correction_check_bytes(const uint8_t *word, size_t word_len, uint8_t *out, size_t out_len,
+                                        uint64_t results[1]);
+
+/* Reading the header from the first two bytes: 0 if it announces check bytes of Reed-Solomon (255, 223), or 1, 24. Each
+ * bit of its ID is what two or three of the three copies say; bit 15 is not looked at. */
+uint8_t kusikhut_correction_header(const uint8_t *bytes, size_t bytes_len);
 
 /* Frames as chips. A kind is 0: mode T, format A; 1: mode C, format A; 2: mode C, format B; 3: Manchester, format A.
  * Receiving mode T or C: 0, or 10; 7 or 14; 1, 8; 1, 6; 2; 1, 6; 3; 4.

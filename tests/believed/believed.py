@@ -90,7 +90,7 @@ def rust_types(path):
     """The enums and structs of a source file."""
     lines = code(path)
     for no, line in enumerate(lines):
-        m = re.match(r"(?:pub )?(?:enum|struct) (\w+)", line)
+        m = re.match(r"(?:pub(?:\(crate\))? )?(?:enum|struct) (\w+)", line)
         if m:
             end = no if line.endswith((";", "}")) else lines.index("}", no)
             yield Item(str(path), m.group(1), lines[no:end + 1])

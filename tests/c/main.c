@@ -1,5 +1,6 @@
 /* Links libkusikhut.a from C and walks through a collector's day with the frame of EN 13757-4:2019, Annex C.2:
- * receive it, change a byte in it, send it on, number its sessions, and see refusals leave lent memory alone. */
+ * receive it, change a byte in it, send it on, write correction bytes behind it, number its sessions, and see refusals
+ * leave lent memory alone. */
 #include "../../include/kusikhut.h"
 #include <stdio.h>
 #include <string.h>
@@ -54,6 +55,91 @@ static void chips(void) {
     expect(memcmp(out, content, 15) == 0 && all(out + 15, 17, 0xEE), "receive: the content, and nothing behind it");
     expect(kusikhut_receive(air, sizeof air, 25, 10, out, sizeof out, r) == 14 && r[2] == 10, "receive: allowance used up");
     expect(kusikhut_receive(air, 0, 0, 10, out, sizeof out, r) == 7 && r[2] == 0, "receive: the empty buffer");
+}
+
+enum { CORRECTED = 20 + KUSIKHUT_CORRECTION_SIZE, LONGEST = 223, OVER = 224 };
+
+/* Annex C.3, format B; and the check bytes of both frames. */
+static const uint8_t frame_b[21] = {0x14, 0x44, 0xAE, 0x0C, 0x78, 0x56, 0x34, 0x12, 0x01, 0x07, 0x8C,
+                                    0x20, 0x27, 0x78, 0x0B, 0x13, 0x43, 0x65, 0x87, 0x7A, 0xC5};
+static const uint8_t checks[32] = {0x84, 0xEA, 0x27, 0x69, 0x58, 0xEC, 0x76, 0xA2, 0x96, 0x78, 0xBF,
+                                   0x51, 0xDF, 0xED, 0x76, 0x61, 0xD4, 0x6D, 0x36, 0xB8, 0x52, 0x3B,
+                                   0xAE, 0x78, 0x7C, 0xEF, 0xFD, 0x7B, 0x00, 0x7E, 0xC9, 0xC6};
+static const uint8_t checks_b[32] = {0x9B, 0x45, 0xF3, 0x8E, 0x71, 0xEA, 0xB5, 0xDB, 0xC8, 0x01, 0x86,
+                                     0x02, 0x9E, 0xF9, 0x80, 0xE1, 0x88, 0xF8, 0x36, 0x8D, 0x98, 0x3C,
+                                     0xA0, 0x55, 0xF2, 0x1D, 0x5F, 0x34, 0xD4, 0xE8, 0x59, 0x35};
+
+static void corrections(void) {
+    uint8_t out[64], longer[22];
+    uint64_t r[1];
+    memset(out, 0xEE, sizeof out);
+    expect(kusikhut_correction_write_a(frame, 20, out, CORRECTED, r) == 0 && r[0] == CORRECTED, "correction: 54 bytes");
+    expect(memcmp(out, frame, 20) == 0 && out[20] == 0x21 && out[21] == 0x04, "correction: frame and header");
+    expect(memcmp(out + 22, checks, 32) == 0, "correction: the check bytes");
+    expect(all(out + CORRECTED, 10, 0xEE), "correction: nothing behind them is touched");
+    memset(out, 0xEE, sizeof out);
+    memcpy(longer, frame_b, 21);
+    longer[21] = 0x55;
+    expect(kusikhut_correction_write_b(longer, 22, out, sizeof out, r) == 0 && r[0] == 55, "correction: format B");
+    expect(memcmp(out, frame_b, 21) == 0 && out[21] == 0x21 && out[22] == 0x04, "correction: the frame alone");
+    expect(memcmp(out + 23, checks_b, 32) == 0 && all(out + 55, 9, 0xEE), "correction: format B's check bytes");
+}
+
+static void correction_refusals(void) {
+    uint8_t out[CORRECTED], wrong[20], zeros[197] = {0}, longest[LONGEST], over[OVER], room[257];
+    uint64_t r[2] = {0xEE, 0xEE};
+    memset(out, 0xEE, sizeof out);
+    memcpy(wrong, frame, 20);
+    wrong[13] ^= 1;
+    expect(kusikhut_correction_write_a(frame, 0, out, CORRECTED, r) == 1 && r[0] == 0, "correction: no byte");
+    expect(kusikhut_correction_write_a(zeros, 1, out, CORRECTED, r) == 2 && r[0] == 0, "correction: the length byte");
+    expect(kusikhut_correction_write_a(frame, 19, out, CORRECTED, r) == 1 && r[0] == 0, "correction: a byte missing");
+    expect(kusikhut_correction_write_a(wrong, 20, out, 0, r) == 3 && r[0] == 2, "correction: the second block's check");
+    expect(kusikhut_correction_write_b(frame_b, 21, out, 54, r) == 4 && r[0] == 0, "correction: too little room");
+    expect(kusikhut_write_a(zeros, 196, longest, LONGEST, r) == 0 && r[0] == LONGEST, "write: 223 bytes");
+    expect(kusikhut_write_a(zeros, 197, over, OVER, r) == 0 && r[0] == OVER, "write: 224 bytes");
+    expect(kusikhut_correction_write_a(over, OVER, out, CORRECTED, r) == 23 && r[0] == 0, "correction: 23 before 4");
+    over[LONGEST] ^= 1;
+    expect(kusikhut_correction_write_a(over, OVER, out, CORRECTED, r) == 3 && r[0] == 13, "correction: 3 before 23");
+    expect(all(out, CORRECTED, 0xEE), "correction: a refusal leaves lent memory");
+    expect(kusikhut_correction_write_a(longest, LONGEST, room, 257, r) == 0 && r[0] == 257, "correction: 223 bytes");
+    expect(r[1] == 0xEE, "correction: the row has one place");
+}
+
+static void check_bytes(void) {
+    uint8_t out[33], word[OVER];
+    uint64_t r[2] = {0xEE, 0xEE};
+    memset(out, 0xEE, sizeof out);
+    memset(word, 0, sizeof word);
+    memcpy(word + LONGEST - 20, frame, 20);
+    expect(kusikhut_correction_check_bytes(word, OVER, out, 31, r) == 23 && r[0] == 0, "check bytes: too many");
+    expect(kusikhut_correction_check_bytes(frame, 20, out, 31, r) == 4 && r[0] == 0, "check bytes: too little room");
+    expect(all(out, 33, 0xEE), "check bytes: a refusal leaves lent memory");
+    expect(kusikhut_correction_check_bytes(frame, 20, out, 33, r) == 0 && r[0] == 32, "check bytes: 32");
+    expect(memcmp(out, checks, 32) == 0 && out[32] == 0xEE, "check bytes: those of the frame, and nothing behind them");
+    memset(out, 0xEE, sizeof out);
+    expect(kusikhut_correction_check_bytes(word, LONGEST, out, 32, r) == 0, "check bytes: 223 bytes");
+    expect(memcmp(out, checks, 32) == 0, "check bytes: zero bytes before the word change nothing");
+    expect(kusikhut_correction_check_bytes(word, 0, out, 32, r) == 0 && all(out, 32, 0), "check bytes: of no byte");
+    expect(r[1] == 0xEE, "check bytes: the row has one place");
+}
+
+/* The bytes as they are sent, low byte first. */
+static uint8_t announced(uint16_t header) {
+    return kusikhut_correction_header((const uint8_t[2]){header & 0xFF, header >> 8}, 2);
+}
+
+static void correction_headers(void) {
+    static const uint8_t header[3] = {0x21, 0x04, 0xFF};
+    expect(kusikhut_correction_header(header, 0) == 1, "announced: no byte");
+    expect(kusikhut_correction_header(header, 1) == 1, "announced: one byte");
+    expect(kusikhut_correction_header(header, 3) == 0, "announced: bytes behind it mean nothing");
+    expect(announced(0x0421) == 0 && announced(0x8421) == 0, "announced: bit 15 is not looked at");
+    expect(announced(0x0420) == 0 && announced(0x0401) == 0 && announced(0x0021) == 0, "announced: one of three wrong");
+    expect(announced(0x0001) == 24 && announced(0x0020) == 24 && announced(0x0400) == 24, "announced: two wrong");
+    expect(announced(0x24A3) == 0, "announced: each copy wrong in another bit");
+    expect(announced(0x0C63) == 24 && announced(0x0000) == 24, "announced: another code, and none");
+    expect(announced(0x7FFF) == 24 && announced(0xFFFF) == 24, "announced: the reserved one");
 }
 
 enum { SIZE = KUSIKHUT_STORE_SIZE };
@@ -134,6 +220,10 @@ int main(void) {
     expect(kusikhut_update(0xFFFF, 0, 1, 126, r) == 10 && r[0] == 0, "update: distance over 125");
     frames();
     chips();
+    corrections();
+    correction_refusals();
+    check_bytes();
+    correction_headers();
     new_store(store);
     numbers(store);
     restores(store);

@@ -1,9 +1,9 @@
--- The refusals (document 01, "Answer numbers": the table's first and third column; document 02, 9/14).
+-- The refusals (document 01, "Answer numbers": the table's first and third column; document 02, 9/14, 11/14).
 --     numberOf r    the number that a refusal is given under; 0 is acceptance and no refusal
 --     valueOf r     what it returns besides: "nothing" is 0
 use Prim.Native.Nat.{ℕ}
 use Rattle.answers.specs.declared.Refusal.{Refusal}
-use Rattle.answers.specs.declared.Refusal.the-variants.{Short, BadLength, WrongCheck, NoRoom, BadContent, BadWord, NoSync, UnknownTail, BadPlace, OutOfRange, UnknownCi, ShortBody, NoSuchChannel, UsedUp, BadStore, UnknownVersion, NotHeld, Unsure, NumbersUsedUp, StoreFull}
+use Rattle.answers.specs.declared.Refusal.the-variants.{Short, BadLength, WrongCheck, NoRoom, BadContent, BadWord, NoSync, UnknownTail, BadPlace, OutOfRange, UnknownCi, ShortBody, NoSuchChannel, UsedUp, BadStore, UnknownVersion, NotHeld, Unsure, NumbersUsedUp, StoreFull, TooLong, UnknownCode}
 
 abbrev pub numberOf : Refusal → ℕ
 numberOf Short = 1
@@ -26,6 +26,8 @@ numberOf NotHeld = 19
 numberOf Unsure = 20
 numberOf NumbersUsedUp = 21
 numberOf StoreFull = 22
+numberOf TooLong = 23
+numberOf UnknownCode = 24
 
 abbrev pub valueOf : Refusal → ℕ
 valueOf Short = 0
@@ -48,3 +50,5 @@ valueOf NotHeld = 0
 valueOf Unsure = 0
 valueOf NumbersUsedUp = 0
 valueOf StoreFull = 0
+valueOf TooLong = 0
+valueOf UnknownCode = 0

@@ -45,6 +45,10 @@ pub enum Refusal {
     NumbersUsedUp,
     // The store would hold more meters than it has room for.
     StoreFull,
+    // The word is too long for correction bytes.
+    TooLong,
+    // The correction header announces bytes of another code.
+    UnknownCode,
 }
 
 // What a writer answers: the bytes written.
@@ -77,6 +81,8 @@ pub fn number(refusal: Refusal) -> u8
         Refusal::Unsure => 20,
         Refusal::NumbersUsedUp => 21,
         Refusal::StoreFull => 22,
+        Refusal::TooLong => 23,
+        Refusal::UnknownCode => 24,
     }
 }
 
@@ -105,5 +111,7 @@ pub fn value(refusal: Refusal) -> usize
         Refusal::Unsure => 0,
         Refusal::NumbersUsedUp => 0,
         Refusal::StoreFull => 0,
+        Refusal::TooLong => 0,
+        Refusal::UnknownCode => 0,
     }
 }

@@ -17,6 +17,8 @@ use lib.Bits.{bitXor, xor-shr, xor-mod, xor-zero-r, xor-lt}
 use lib.ListN.{length, drop, getD, replicate, length-replicate}
 use lib.Seq.{drop-cons}
 use Rattle.ground.proofs.XorLaws.{xor-swap, xor-shl, xor-last, xor-cancel}
+use Rattle.ground.proofs.SumLaws.{xors-zeros}
+use Rattle.ground.specs.Sums.{xors}
 use Rattle.crc.specs.Check.{bitIn, bitsIn, byteIn, regOf, checkOf}
 use Rattle.crc.specs.CheckUpdate.{shareOf, updatedCheck}
 
@@ -87,11 +89,6 @@ byteIn-xor r s a b =
     ∙ bitsIn-xor 8 (bitXor r (a * 256)) (bitXor s (b * 256))
 
 -- byte by byte
-unfoldable pub xors : List ℕ → List ℕ → List ℕ
-xors [] bs = []
-xors (x ∷ xs) [] = []
-xors (x ∷ xs) (b ∷ bs) = bitXor x b ∷ xors xs bs
-
 pub regOf-xor : (r s : ℕ) (xs bs : List ℕ) → length xs ≡ length bs
     → regOf (bitXor r s) (xors xs bs) ≡ bitXor (regOf r xs) (regOf s bs)
 unfolding regOf xors
@@ -107,11 +104,6 @@ checkOf-xor xs bs e =
     xor-swap (regOf 0 xs) 0xFFFF (regOf 0 bs) 0xFFFF ∙ xor-zero-r _ ∙ sym (regOf-xor 0 0 xs bs e)
 
 -- ---- a changed byte
-
-xors-zeros : (xs : List ℕ) → xors xs (replicate (length xs) 0) ≡ xs
-unfolding xors
-xors-zeros [] = refl
-xors-zeros (x ∷ xs) = ap₂ {C = List ℕ} (λ (y : ℕ) (ys : List ℕ). y ∷ ys) (xor-zero-r x) (xors-zeros xs)
 
 -- what was added to the register earlier goes through the later bytes as through zeros
 pub regOf-added :

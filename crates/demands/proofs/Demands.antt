@@ -38,8 +38,10 @@ use Rattle.address.proofs.KeyLaws.{keyBytes-keyAt}
 use Rattle.sessions.specs.StoreFile.{metersBytes}
 use Rattle.sessions.proofs.ExactLaws.{fileOf-exactly}
 use Rattle.sessions.proofs.HistoryLaws.{running, restored-afresh}
+use Rattle.codewords.proofs.FillLaws.{fill-code, fill-checks}
+use Rattle.codewords.proofs.NearLaws.{near-one}
 use Rattle.kusikhut.specs.Told.{told, refusalPlace}
-use Rattle.demands.specs.Demands.{ChipNumbers, FrameNumbers, MeterNumbers, StoreNumbers, Plain, AcceptedRows, RefusedRows, StoreRows, InCodes, InHeaders, InBytes, InChips, Changes, StoreFiles, StoreMeters, StorePromise}
+use Rattle.demands.specs.Demands.{ChipNumbers, FrameNumbers, MeterNumbers, StoreNumbers, Plain, AcceptedRows, RefusedRows, StoreRows, InCodes, InHeaders, InBytes, InChips, Changes, StoreFiles, StoreMeters, StorePromise, CorrectionNumbers, CorrectionPromise}
 use Rattle.demands.specs.Cases.{Spells}
 use Rattle.demands.specs.Touched.{Touched}
 use Rattle.demands.proofs.LineRuleLaws as line
@@ -52,6 +54,8 @@ use Rattle.demands.proofs.TripRuleLaws as trip
 use Rattle.demands.proofs.StoreRuleLaws as store
 use Rattle.demands.proofs.StorePutLaws.{withMeter-puts}
 use Rattle.demands.proofs.StorePromiseLaws.{emptying-within, written-read, restoring-restores, afterAll-within}
+use Rattle.demands.proofs.CorrectionRuleLaws as correction
+use Rattle.demands.proofs.CorrectionPromiseLaws.{correcting-reads, correcting-announced, correcting-corrects, checks-correct}
 use Rattle.demands.proofs.TouchLaws.{change-touched}
 
 pub chip-numbers : ChipNumbers
@@ -287,3 +291,24 @@ store-meters =
 
 pub store-promise : StorePromise
 store-promise = record { running = running; restored = restored-afresh }
+
+pub correction-numbers : CorrectionNumbers
+correction-numbers =
+    record {
+      writing-a-correction = correction.write-judged;
+      check-bytes-alone = correction.check-bytes-judged;
+      reading-the-header = correction.announce-judged;
+    }
+
+pub correction-promise : CorrectionPromise
+correction-promise =
+    record {
+      written-words = λ f s d y bytes h. correcting-corrects f s d y h bytes;
+      code-words = checks-correct;
+      fill = fill-code;
+      fill-of-a-word = fill-checks;
+      near-words = near-one;
+      announced = correcting-announced;
+      told-number = (refl, λ r. refl);
+      read-as-before = λ f s d e y h. correcting-reads f s d y h e;
+    }

@@ -13,5 +13,8 @@ pub mod StoreStepLaws
 pub mod StoreRuleLaws
 pub mod StorePutLaws
 pub mod StorePromiseLaws
+pub mod CorrectionCaseLaws
+pub mod CorrectionRuleLaws
+pub mod CorrectionPromiseLaws
 pub mod Demands
 pub mod Starred

@@ -132,6 +132,9 @@ ten Refusal.NotHeld e = absurd (omega arith)
 ten Refusal.Unsure e = absurd (omega arith)
 ten Refusal.NumbersUsedUp e = absurd (omega arith)
 ten Refusal.StoreFull e = absurd (omega arith)
+-- nor of correction bytes
+ten Refusal.TooLong e = absurd (omega arith)
+ten Refusal.UnknownCode e = absurd (omega arith)
 
 closed-is : (a : Answer) → isClosed a ≡ true → a ≡ Answer.Refused Refusal.OutOfRange
 closed-is Answer.Ready e = absurd (false≢true e)

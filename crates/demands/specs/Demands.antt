@@ -20,6 +20,7 @@ use Rattle.answers.specs.declared.Refusal.{Refusal}
 use Rattle.answers.specs.declared.Written.{Written}
 use Rattle.answers.specs.Outcome.{Outcome}
 use Rattle.answers.specs.Refusals.{numberOf, valueOf}
+use Rattle.ground.specs.Apart.{apart}
 use Rattle.ground.specs.Bytes.{Bytes}
 use Rattle.chips.specs.Chips.{chipAt, roomLimit}
 use Rattle.chips.specs.Packing.{tabulate}
@@ -76,24 +77,30 @@ use Rattle.sessions.specs.StoreFile.{markOf, bytesOf, versionOne, fileOf}
 use Rattle.sessions.specs.StoreCalls.{emptying, adding, addingBy, hearingIn, issuing, restoring, writingStore, lookingUp, allowanceIn, settingAllowance}
 use Rattle.sessions.specs.Valid.{Valid, Within, IsFile}
 use Rattle.sessions.specs.History.{Call, InRanges, afterAll, NoneHeld, Running, Restored}
+use Rattle.codewords.specs.declared.Announced.{Announced}
+use Rattle.codewords.specs.CodeBlocks.{CodeBlock, Corrects}
+use Rattle.codewords.specs.CheckBytes.{checksOf}
+use Rattle.codewords.specs.Corrections.{correctingOf, checkingOf, announcedOf}
 use Rattle.channels.specs.declared.listing.Band.{Band}
 use Rattle.channels.specs.declared.listing.Line.{Line}
 use Rattle.channels.specs.declared.plan.Centre.{Centre}
 use Rattle.channels.specs.Table21.{entryOf, channelsOf, quartersOf}
 use Rattle.channels.specs.Plan.{float, rowOf, centreOf}
 use Rattle.channels.specs.Listing.{bandOf, rowsOf, linesFrom, linesOf, lineAt}
-use Rattle.kusikhut.specs.Told.{Told, told, tells, toldUpdated, toldDecoded, toldWord, toldWritten, toldSize, toldFrame, toldSync, toldHeader, toldMaker, toldVerdict, toldValue, toldLookup, toldLine, toldCentre, toldReception, kindNumber}
+use Rattle.kusikhut.specs.Told.{Told, told, tells, toldUpdated, toldDecoded, toldWord, toldWritten, toldSize, toldFrame, toldSync, toldHeader, toldMaker, toldVerdict, toldValue, toldLookup, toldLine, toldCentre, toldReception, toldAnnounced, kindNumber}
 use Rattle.demands.specs.Rules.{Judged, JudgedLent}
 use Rattle.demands.specs.Cases.{Spells}
 use Rattle.demands.specs.Ladders as rule
 use Rattle.demands.specs.StoreAfter.{Puts, Restores}
 use Rattle.demands.specs.StoreLadders as store
+use Rattle.demands.specs.CorrectionLadders as correction
 use Rattle.demands.specs.Touched.{Touched}
 
 -- Demand 1. Every call answers, whatever it is given, even an empty buffer. Bad input is refused with a number, always
 -- the first that applies: each number is given exactly in its case, with its value, and a refused call changes no byte
 -- of the buffer that it was lent for its output. What a call answers otherwise is said too. The ladders say in which
--- order the cases are judged (specs/Ladders), and specs/Cases what each case means.
+-- order the cases are judged (specs/Ladders, StoreLadders, CorrectionLadders), and specs/Cases, StoreCases and
+-- CorrectionCases what each case means.
 --
 -- Chips: line codes, chip reader, search.
 pub record ChipNumbers : Type 0 where
@@ -250,6 +257,19 @@ pub record StoreNumbers : Type 0 where
   pub setting-the-allowance :
       (s : List ℕ) → Bytes s → (n : ℕ)
       → JudgedLent Written.Refused s (store.setAllowanceRule n s) (settingAllowance n s)
+
+-- Correction bytes (document 02, 11/14). Frames and other words are bytes.
+pub record CorrectionNumbers : Type 0 where
+  -- by correction::write, kusikhut_correction_write_a, kusikhut_correction_write_b
+  pub writing-a-correction :
+      (f : Format) (s : List ℕ) → Bytes s → (d : List ℕ)
+      → JudgedLent Written.Refused d (correction.writeRule f s d) (correctingOf f s d)
+  -- by correction::check_bytes, kusikhut_correction_check_bytes
+  pub check-bytes-alone :
+      (w : List ℕ) → Bytes w → (d : List ℕ)
+      → JudgedLent Written.Refused d (correction.checkBytesRule w d) (checkingOf w d)
+  -- by correction::announced, kusikhut_correction_header
+  pub reading-the-header : (s : List ℕ) → Judged Announced.Refused (correction.announceRule s) (announcedOf s)
 
 -- Calls that are never refused.
 pub record Plain : Type 0 where
@@ -497,3 +517,29 @@ pub record StoreMeters : Type 0 where
 pub record StorePromise : Type 0 where
   pub running : Running
   pub restored : Restored
+
+-- Document 02, 11/14, correction bytes. Of the y bytes that were written to m the last 32 make the first y - 34, which
+-- are the frame (`writing-a-correction`), a code word by the generator's roots. Every word has such 32 bytes, and no
+-- other 32. Zero fill before a block makes no code word of it and unmakes none, and a word's check bytes stay the same.
+-- Of all code words of one length at most one differs from what was received at 16 places or fewer. The header that was
+-- written announces them; of what a header announces a caller in C is told the number alone. A frame with its
+-- correction behind it is read as before.
+pub record CorrectionPromise : Type 0 where
+  pub written-words :
+      (f : Format) (s d : List ℕ) (y : ℕ) → Bytes s → correctingOf f s d .answer ≡ Written.Accepted y
+      → let m = correctingOf f s d .memory in
+      Corrects (take (y - 34) m) (take 32 (drop (y - 32) m))
+  pub code-words : (w c : List ℕ) → Bytes w → Corrects w c ↔ (c ≡ checksOf w)
+  pub fill : (k : ℕ) (b : List ℕ) → CodeBlock (replicate k 0 ++ b) ↔ CodeBlock b
+  pub fill-of-a-word : (k : ℕ) (w : List ℕ) → checksOf (replicate k 0 ++ w) ≡ checksOf w
+  pub near-words :
+      (r u v : List ℕ) → length r ≡ length u → length r ≡ length v → length r ≤ 255 → Bytes u → Bytes v
+      → CodeBlock u → CodeBlock v → apart r u ≤ 16 → apart r v ≤ 16 → u ≡ v
+  pub announced :
+      (f : Format) (s d : List ℕ) (y : ℕ) → correctingOf f s d .answer ≡ Written.Accepted y
+      → announcedOf (drop (y - 34) (correctingOf f s d .memory)) ≡ Announced.ReedSolomon
+  pub told-number :
+      (toldAnnounced Announced.ReedSolomon ≡ 0) × ((r : Refusal) → toldAnnounced (Announced.Refused r) ≡ numberOf r)
+  pub read-as-before :
+      (f : Format) (s d e : List ℕ) (y : ℕ) → correctingOf f s d .answer ≡ Written.Accepted y
+      → readingOf f (correctingOf f s d .memory) e ≡ readingOf f s e

@@ -4,5 +4,7 @@ pub mod Ladders
 pub mod StoreCases
 pub mod StoreAfter
 pub mod StoreLadders
+pub mod CorrectionCases
+pub mod CorrectionLadders
 pub mod Touched
 pub mod Demands

@@ -11,5 +11,6 @@
 mod judged; // judged.rt: the entry points of the crates below, each judged by its ladder
 mod listed; // listed.rt: channels and lines of a band, each number exactly in its case
 mod stored; // stored.rt: the calls of the settings store, each judged by its ladder
+mod corrected; // corrected.rt: the calls on correction bytes, each judged by its ladder
 mod repeated; // repeated.rt: two changes of a frame, two numbers issued with a restore between them
 mod roles; // roles.rt: exported functions with two parameters of one type, each parameter in its role

@@ -1,8 +1,10 @@
 pub mod BitLaws
 pub mod ByteLaws
 pub mod XorLaws
+pub mod SumLaws
 pub mod TableLaws
 pub mod StoresLaws
 pub mod FrontLaws
 pub mod CaseLaws
 pub mod BehindLaws
+pub mod ApartLaws

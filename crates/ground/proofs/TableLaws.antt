@@ -3,11 +3,12 @@
 --     getD-values     entry k of a table that lists f from 0 is f k
 --     allBelow f n    the test f passes at every number below n
 --     allBelow-at     then it passes at each of them
+--     passed          a test that passes is true
 -- A table of the source that follows a rule f is `values f n 0` by computation: `getD-values` is its whole proof.
 -- Assumes nothing.
-use mathlib.Core.Path.{_≡_, ap, _∙_, sym, subst}
+use mathlib.Core.Path.{_≡_, refl, ap, _∙_, sym, subst}
 use mathlib.Core.Logic.{⊎-elim}
-use mathlib.Core.Bool.{Bool, true, _&&_}
+use mathlib.Core.Bool.{Bool, true, false, _&&_}
 use mathlib.Core.List.{List, [], _∷_}
 use Prim.Native.Nat.{ℕ, zero, suc, _+_, _<_}
 use native.Mathlib.Nat.{le-of-suc-le-suc, not-suc-le-zero, eq-or-lt-of-le}
@@ -43,3 +44,7 @@ allBelow-at f zero t k h = absurd (not-suc-le-zero h)
 allBelow-at f (suc n) t k h =
     ⊎-elim (λ e. subst (λ (m : ℕ). T (f m)) (sym e) (and-l (f n) (allBelow f n) t))
     (λ l. allBelow-at f n (and-r (f n) (allBelow f n) t) k l) (eq-or-lt-of-le (le-of-suc-le-suc h))
+
+pub passed : (t : Bool) → T t → t ≡ true
+passed true p = refl
+passed false p = absurd p

@@ -3,6 +3,7 @@
 --     xor-assoc                  brackets do not matter
 --     xor-swap, xor-last         the middle two of four, the last two of three change places
 --     xor-cancel, xor-cancel-r   a pattern added twice is gone
+--     xor-equal                  two patterns whose sum is 0 are one
 --     xor-shl                    a shift to the left passes through
 use mathlib.Core.Path.{_≡_, refl, sym, ap, ap₂, _∙_}
 use Prim.Native.Nat.{ℕ, _+_, _*_, _/_, _%_, _^_}
@@ -57,6 +58,9 @@ xor-cancel a b = sym (xor-assoc a a b) ∙ ap (λ (x : ℕ). bitXor x b) (xor-se
 
 pub xor-cancel-r : (a b : ℕ) → bitXor (bitXor a b) b ≡ a
 xor-cancel-r a b = xor-assoc a b b ∙ ap (bitXor a) (xor-self b) ∙ xor-zero-r a
+
+pub xor-equal : (a b : ℕ) → bitXor a b ≡ 0 → a ≡ b
+xor-equal a b z = sym (xor-cancel-r a b) ∙ ap (λ (x : ℕ). bitXor x b) z
 
 pub xor-shl : (a b k : ℕ) → bitXor a b * 2 ^ k ≡ bitXor (a * 2 ^ k) (b * 2 ^ k)
 xor-shl a b k =

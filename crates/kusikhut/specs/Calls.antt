@@ -22,6 +22,7 @@ use Rattle.header.specs.declared.layout.Header.{Header}
 use Rattle.header.specs.HeaderWrites.{headerWritingOf}
 use Rattle.address.specs.Keys.{keyAt}
 use Rattle.sessions.specs.StoreCalls.{emptying, addingBy, hearingIn, issuing, restoring, settingAllowance, writingStore}
+use Rattle.codewords.specs.Corrections.{correctingOf, checkingOf}
 use Rattle.kusikhut.specs.Told.{Told, tells, toldDecoded, toldWritten, toldFrame, toldReception, toldValue}
 
 abbrev pub callDecode : Code → List ℕ → ℕ → ℕ → List ℕ → Outcome (Told ℕ)
@@ -82,3 +83,9 @@ callSetAllowance s n = tells toldWritten (settingAllowance n s)
 
 abbrev pub callWriteStore : List ℕ → List ℕ → Outcome (Told ℕ)
 callWriteStore s d = tells toldWritten (writingStore s d)
+
+abbrev pub callCorrect : Format → List ℕ → List ℕ → Outcome (Told ℕ)
+callCorrect f s d = tells toldWritten (correctingOf f s d)
+
+abbrev pub callCheckBytes : List ℕ → List ℕ → Outcome (Told ℕ)
+callCheckBytes w d = tells toldWritten (checkingOf w d)

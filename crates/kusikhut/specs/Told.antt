@@ -33,6 +33,7 @@ use Rattle.modes.specs.Tables.{modeNumber, formatNumber}
 use Rattle.sessions.specs.declared.Value.{Value}
 use Rattle.sessions.specs.declared.Lookup.{Lookup}
 use Rattle.sessions.specs.StoreFile.{markOf}
+use Rattle.codewords.specs.declared.Announced.{Announced}
 use Rattle.channels.specs.declared.plan.Centre.{Centre}
 use Rattle.channels.specs.declared.listing.Line.{Line}
 use Rattle.channels.specs.Plan.{float}
@@ -114,6 +115,11 @@ abbrev pub toldLookup : Lookup → Told ℕ
 toldLookup (Lookup.Accepted m) =
     told 0 (modeNumber (m .mode) ∷ formatNumber (m .format) ∷ m .number ∷ markOf (m .unsure) ∷ [])
 toldLookup (Lookup.Refused r) = toldRefusal 4 0 r
+
+-- the number alone: a correction header has no other result
+abbrev pub toldAnnounced : Announced → ℕ
+toldAnnounced Announced.ReedSolomon = 0
+toldAnnounced (Announced.Refused r) = numberOf r
 
 -- index, channel, hertz; past the band's last line there is no such channel
 abbrev pub toldLine : Line → Told ℕ

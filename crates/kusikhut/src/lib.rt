@@ -14,6 +14,7 @@ mod address_calls; // address_calls.rt: the letters of a maker
 mod header_calls; // header_calls.rt: extended link headers, access
 mod filter_calls; // filter_calls.rt: the meter filter
 mod store_calls; // store_calls.rt: the settings store
+mod correction_calls; // correction_calls.rt: correction bytes and their header
 mod channels_calls; // channels_calls.rt: mode N rows, centres and bands
 
 // What the crate entry calls by its name; every function is exported, named here or not.

@@ -6,6 +6,7 @@
 
 mod address;
 mod channels;
+mod correction;
 mod crc;
 mod filter;
 mod frame;
@@ -21,6 +22,7 @@ mod sync;
 
 pub use address::letters;
 pub use channels::{band_line, centre, row, BandLine, Row};
+pub use correction::{check_bytes, read_correction_header, CORRECTION_SIZE};
 pub use crc::{check, update};
 pub use filter::{wanted, Entries};
 pub use frame::{Format, Frame};

@@ -28,6 +28,10 @@ extern "C" {
     pub fn kusikhut_write_b(c: *const u8, cl: usize, o: *mut u8, ol: usize, r: *mut u64) -> u8;
     pub fn kusikhut_change_a(f: *mut u8, fl: usize, place: usize, byte: u8, r: *mut u64) -> u8;
     pub fn kusikhut_change_b(f: *mut u8, fl: usize, place: usize, byte: u8, r: *mut u64) -> u8;
+    pub fn kusikhut_correction_write_a(b: *const u8, bl: usize, o: *mut u8, ol: usize, r: *mut u64) -> u8;
+    pub fn kusikhut_correction_write_b(b: *const u8, bl: usize, o: *mut u8, ol: usize, r: *mut u64) -> u8;
+    pub fn kusikhut_correction_check_bytes(w: *const u8, wl: usize, o: *mut u8, ol: usize, r: *mut u64) -> u8;
+    pub fn kusikhut_correction_header(b: *const u8, bl: usize) -> u8;
     pub fn kusikhut_receive(c: *const u8, cl: usize, start: usize, allowance: usize, o: *mut u8, ol: usize, r: *mut u64) -> u8;
     pub fn kusikhut_receive_manchester(c: *const u8, cl: usize, start: usize, o: *mut u8, ol: usize, r: *mut u64) -> u8;
     pub fn kusikhut_send_t_a(c: *const u8, cl: usize, o: *mut u8, ol: usize, r: *mut u64) -> u8;

@@ -65,6 +65,12 @@ enum-told-14 c = search needs
 enum-told-15 : tie.Need-enum-told-15
 enum-told-15 c = search needs
 
+enum-told-16 : tie.Need-enum-told-16
+enum-told-16 c = search needs
+
+enum-told-17 : tie.Need-enum-told-17
+enum-told-17 c = search needs
+
 returns : tie.Need-returns
 returns c = ap valueOf (sym (c .enum-told .given .1))
 
@@ -125,6 +131,12 @@ returns-19 c = ap valueOf (sym (c .enum-told14 .given .1))
 returns-20 : tie.Need-returns-20
 returns-20 c = ap valueOf (sym (c .enum-told15 .given .1))
 
+returns-21 : tie.Need-returns-21
+returns-21 c = ap valueOf (sym (c .enum-told16 .given .1))
+
+returns-22 : tie.Need-returns-22
+returns-22 c = ap valueOf (sym (c .enum-told17 .given .1))
+
 pub value-spec : {M : Type 1} → statement M
 value-spec =
     tie.close
@@ -149,6 +161,8 @@ value-spec =
     enum-told-13
     enum-told-14
     enum-told-15
+    enum-told-16
+    enum-told-17
     returns
     returns-2
     returns-3
@@ -168,4 +182,6 @@ value-spec =
     returns-17
     returns-18
     returns-19
-    returns-20)
+    returns-20
+    returns-21
+    returns-22)

@@ -2,6 +2,7 @@
 //! the answer.
 mod address;
 mod channels;
+mod correction;
 mod crc;
 mod filter;
 mod frame;
@@ -28,6 +29,7 @@ fn commands() -> impl Iterator<Item = &'static Command> {
         radio::COMMANDS,
         sync::COMMANDS,
         frame::COMMANDS,
+        correction::COMMANDS,
         crc::COMMANDS,
         line::COMMANDS,
         header::COMMANDS,

@@ -8,7 +8,7 @@ use second::chips::Code;
 use second::filter::Entries;
 use second::frames::Format;
 use second::headers::{Header, HeaderKind};
-use second::implementation::{Implementation, StoreCalls};
+use second::implementation::{CorrectionCalls, Implementation, StoreCalls};
 use second::store::Address;
 use second::sync::Kind;
 use std::io::Write;
@@ -226,6 +226,29 @@ impl Implementation for Proved {
 
     fn store_calls(&self) -> Option<&dyn StoreCalls> {
         Some(self)
+    }
+
+    fn correction_calls(&self) -> &dyn CorrectionCalls {
+        self
+    }
+}
+
+impl CorrectionCalls for Proved {
+    fn correction_write(&self, format: Format, bytes: &[u8], out: &mut [u8]) -> Answer {
+        let call = match format {
+            Format::A => raw::kusikhut_correction_write_a,
+            Format::B => raw::kusikhut_correction_write_b,
+        };
+        written(call, bytes, out)
+    }
+
+    fn correction_check_bytes(&self, word: &[u8], out: &mut [u8]) -> Answer {
+        written(raw::kusikhut_correction_check_bytes, word, out)
+    }
+
+    /// The call is lent no row of results.
+    fn correction_header(&self, bytes: &[u8]) -> Answer {
+        told(0, |_| unsafe { raw::kusikhut_correction_header(bytes.as_ptr(), bytes.len()) })
     }
 }
 

@@ -22,14 +22,17 @@ fn planted(case: &Case, spoil: impl Fn(&mut Outcome)) -> Result<(), Difference> 
     compare_outcomes(spoiled, |case| case.run(&Second), [case.clone()]).map(|_| ())
 }
 
-/// One field wrong, of any row of the library, beside any number that the call answers. Beside a refusal nearly all of
-/// them are zeros that no value names.
+/// The number wrong, or one field of any row of the library, beside any number that the call answers. Beside a refusal
+/// nearly all of them are zeros that no value names. The header of correction bytes is read without a row: the number
+/// is all that is told.
 #[test]
 fn every_field_is_compared() {
     let mut fields = 0;
     for operation in Operation::CALLS {
         for (number, case) in one_of_each(operation, operation.numbers(), &Second) {
             assert_eq!(planted(&case, |_| ()), Ok(()));
+            let found = planted(&case, |outcome| outcome.answer.number += 1);
+            assert!(found.is_err(), "{operation:?} {number}: the number is not compared");
             for field in 0..case.run(&Proved).answer.row.len() {
                 let found = planted(&case, |outcome| outcome.answer.row[field] += 1);
                 assert!(found.is_err(), "{operation:?} {number}: field {field} is not compared");
@@ -37,7 +40,7 @@ fn every_field_is_compared() {
             }
         }
     }
-    assert_eq!(fields, 288);
+    assert_eq!(fields, 297);
 }
 
 /// A field that a call does not write, and one too many or too few.

@@ -9,7 +9,7 @@ use second::filter::Entries;
 use second::frames::Format;
 use second::headers::{Header, HeaderKind};
 use second::hidden::{Asked, HiddenStore};
-use second::implementation::{Implementation, StoreCalls};
+use second::implementation::{CorrectionCalls, Implementation, StoreCalls};
 use second::store::{Meter, Mode, Store};
 use second::sync::Kind;
 
@@ -244,6 +244,28 @@ impl Implementation for Wrapped {
     /// The wrapper's store takes no memory from outside: `WrappedStore` is compared in sequences.
     fn store_calls(&self) -> Option<&dyn StoreCalls> {
         None
+    }
+
+    fn correction_calls(&self) -> &dyn CorrectionCalls {
+        self
+    }
+}
+
+impl CorrectionCalls for Wrapped {
+    fn correction_write(&self, f: Format, bytes: &[u8], out: &mut [u8]) -> Answer {
+        one(fenced(out, |out| format(f).write_correction(bytes, out)), |size| size)
+    }
+
+    fn correction_check_bytes(&self, word: &[u8], out: &mut [u8]) -> Answer {
+        one(fenced(out, |out| library::check_bytes(word, out)), |size| size)
+    }
+
+    /// The row has no field, and neither of its refusals carries a value.
+    fn correction_header(&self, bytes: &[u8]) -> Answer {
+        match library::read_correction_header(bytes) {
+            Ok(()) => Answer::accepted(&[]),
+            Err(refusal) => Answer { number: refusal.number().into(), row: Vec::new() },
+        }
     }
 }
 

@@ -1,9 +1,9 @@
-//! The answer numbers of document 01 and of request 9/14, and the values that
-//! come with them.
+//! The answer numbers of document 01 and of requests 9/14 and 11/14, and the
+//! values that come with them.
 
 /// Why an operation refused. Each case carries exactly what 01's table
 /// "Answer numbers" returns besides, and nothing else. From 17 on the numbers
-/// are those of 9/14, which names no value beside any of them.
+/// are those of 9/14 and then of 11/14, which name no value beside any of them.
 #[derive(Clone, Copy, Debug, PartialEq, Eq)]
 pub enum Refusal {
     /// 1: bytes or chips end too early.
@@ -46,6 +46,10 @@ pub enum Refusal {
     NumbersUsedUp,
     /// 22: store full.
     StoreFull,
+    /// 23: over 223 bytes, too long for correction bytes.
+    TooLongForCorrection,
+    /// 24: the header of correction bytes has an ID other than 1.
+    AnotherCode,
 }
 
 impl Refusal {
@@ -72,6 +76,8 @@ impl Refusal {
             Refusal::Unsure => 20,
             Refusal::NumbersUsedUp => 21,
             Refusal::StoreFull => 22,
+            Refusal::TooLongForCorrection => 23,
+            Refusal::AnotherCode => 24,
         }
     }
 

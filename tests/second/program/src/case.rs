@@ -26,6 +26,9 @@ pub enum Operation {
     FrameWrite,
     FrameChange,
     FrameSize,
+    CorrectionWrite,
+    CorrectionCheckBytes,
+    CorrectionHeader,
     Receive,
     ReceiveManchester,
     Send,
@@ -72,7 +75,7 @@ const METER: Shape = Shape::Exactly(8);
 
 impl Operation {
     /// The calls: what the library exports.
-    pub const CALLS: [Operation; 30] = [
+    pub const CALLS: [Operation; 33] = [
         Operation::Decode,
         Operation::Encode,
         Operation::Word,
@@ -83,6 +86,9 @@ impl Operation {
         Operation::FrameWrite,
         Operation::FrameChange,
         Operation::FrameSize,
+        Operation::CorrectionWrite,
+        Operation::CorrectionCheckBytes,
+        Operation::CorrectionHeader,
         Operation::Receive,
         Operation::ReceiveManchester,
         Operation::Send,
@@ -115,6 +121,11 @@ impl Operation {
         self.arguments()[0] == ("store", BYTES)
     }
 
+    /// The implementation has this call.
+    pub fn is_call_of(self, with: &dyn Implementation) -> bool {
+        !self.of_store() || with.store_calls().is_some()
+    }
+
     /// The answer numbers that it can give.
     pub fn numbers(self) -> &'static [u64] {
         match self {
@@ -128,6 +139,9 @@ impl Operation {
             Operation::FrameWrite => &[0, 4, 5],
             Operation::FrameChange => &[0, 1, 2, 3, 9],
             Operation::FrameSize => &[0, 2],
+            Operation::CorrectionWrite => &[0, 1, 2, 3, 4, 23],
+            Operation::CorrectionCheckBytes => &[0, 4, 23],
+            Operation::CorrectionHeader => &[0, 1, 24],
             Operation::Receive => &[0, 1, 2, 3, 4, 6, 7, 8, 10, 14],
             Operation::ReceiveManchester => &[0, 1, 2, 3, 4, 6, 10],
             Operation::Send => &[0, 4, 5],
@@ -165,6 +179,9 @@ impl Operation {
             Operation::FrameWrite => "frame_write",
             Operation::FrameChange => "frame_change",
             Operation::FrameSize => "frame_size",
+            Operation::CorrectionWrite => "correction_write",
+            Operation::CorrectionCheckBytes => "correction_check_bytes",
+            Operation::CorrectionHeader => "correction_header",
             Operation::Receive => "receive",
             Operation::ReceiveManchester => "receive_manchester",
             Operation::Send => "send",
@@ -219,6 +236,9 @@ impl Operation {
                 ("byte", BYTE),
             ],
             Operation::FrameSize => &[("format", FORMAT), ("length", BYTE)],
+            Operation::CorrectionWrite => &[("format", FORMAT), ("bytes", BYTES), ("out", BYTES)],
+            Operation::CorrectionCheckBytes => &[("word", BYTES), ("out", BYTES)],
+            Operation::CorrectionHeader => &[("bytes", BYTES)],
             Operation::Receive => &[
                 ("chips", BYTES),
                 ("start", SIZE),
@@ -532,6 +552,13 @@ impl Case {
                 with.frame_change(self.format(), out, self.size("place"), self.byte("byte"))
             }
             Operation::FrameSize => with.frame_size(self.format(), self.byte("length")),
+            Operation::CorrectionWrite => {
+                with.correction_calls().correction_write(self.format(), self.bytes("bytes"), out)
+            }
+            Operation::CorrectionCheckBytes => {
+                with.correction_calls().correction_check_bytes(self.bytes("word"), out)
+            }
+            Operation::CorrectionHeader => with.correction_calls().correction_header(self.bytes("bytes")),
             Operation::Receive => with.receive(
                 self.bytes("chips"),
                 self.size("start"),
@@ -582,7 +609,7 @@ impl Case {
     }
 }
 
-/// The calls of the settings store. Whoever has none is not asked (`of_store`).
+/// The calls of the settings store. Whoever has none is not asked (`is_call_of`).
 fn store(with: &dyn Implementation) -> &dyn StoreCalls {
     with.store_calls().expect("it takes memory for a store")
 }

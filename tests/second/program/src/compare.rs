@@ -120,13 +120,13 @@ impl Stats {
 /// given.
 impl fmt::Display for Stats {
     fn fmt(&self, f: &mut fmt::Formatter) -> fmt::Result {
-        write!(f, "{:<20}", "operation")?;
+        write!(f, "{:<22}", "operation")?;
         for number in self.columns() {
             write!(f, "{number:>7}")?;
         }
         writeln!(f, "{:>9}", "cases")?;
         for operation in Operation::all().filter(|&operation| self.cases(operation) > 0) {
-            write!(f, "{:<20}", operation.name())?;
+            write!(f, "{:<22}", operation.name())?;
             for number in self.columns() {
                 match self.count(operation, number) {
                     0 => write!(f, "{:>7}", ".")?,

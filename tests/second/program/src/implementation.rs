@@ -5,6 +5,7 @@ use crate::answer::{Answer, Refusal};
 use crate::channels::{self, QUARTER};
 use crate::check;
 use crate::chips::{self, Code};
+use crate::correction;
 use crate::filter::{self, Entries};
 use crate::frames::{self, Format, Sizes};
 use crate::headers::{self, Header};
@@ -98,6 +99,21 @@ pub trait Implementation {
     /// The calls of the settings store. None where no memory can be lent to them:
     /// such a store is compared in sequences (`hidden.rs`) and not by cases.
     fn store_calls(&self) -> Option<&dyn StoreCalls>;
+
+    /// The calls of correction bytes.
+    fn correction_calls(&self) -> &dyn CorrectionCalls;
+}
+
+/// The calls of correction bytes (11/14).
+pub trait CorrectionCalls {
+    /// Refusals 1, 2, 1, 3, 23, 4. Row: bytes written. Refused: 3 the block.
+    fn correction_write(&self, format: Format, bytes: &[u8], out: &mut [u8]) -> Answer;
+
+    /// Refusals 23, 4. Row: 32.
+    fn correction_check_bytes(&self, word: &[u8], out: &mut [u8]) -> Answer;
+
+    /// Refusals 1, 24. The row has no field: the number says all.
+    fn correction_header(&self, bytes: &[u8]) -> Answer;
 }
 
 /// The calls of the settings store (9/14). The caller owns the memory: a store in
@@ -313,6 +329,28 @@ impl Implementation for Second {
 
     fn store_calls(&self) -> Option<&dyn StoreCalls> {
         Some(self)
+    }
+
+    fn correction_calls(&self) -> &dyn CorrectionCalls {
+        self
+    }
+}
+
+impl CorrectionCalls for Second {
+    fn correction_write(&self, format: Format, bytes: &[u8], out: &mut [u8]) -> Answer {
+        one(correction::write(format, bytes, out))
+    }
+
+    fn correction_check_bytes(&self, word: &[u8], out: &mut [u8]) -> Answer {
+        one(correction::check_bytes(word, out))
+    }
+
+    fn correction_header(&self, bytes: &[u8]) -> Answer {
+        let refused = correction::read_header(bytes).err();
+        Answer {
+            number: refused.map_or(0, Refusal::number),
+            row: Vec::new(),
+        }
     }
 }
 

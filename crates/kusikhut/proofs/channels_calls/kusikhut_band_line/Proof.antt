@@ -19,12 +19,20 @@ number-requires : tie.Need-number-requires
 number-requires c κs = search needs
 
 returns : tie.Need-returns
-returns c = cc
+returns c =
+    let b = c .before .before in
+    let called = b .before .before in
+    rw (← called .before .band-of .ensures, ← called .line-at .ensures, b .index .given .1)
 
 returns-2 : tie.Need-returns-2
 returns-2 c =
     let b = c .before .before .before .before in
-    rw (← b .before .band-of .ensures, ← b .line-at .ensures, c .before .before .enum-told .given .1) (cc)
+    rw (
+      ← b .before .band-of .ensures,
+      ← b .line-at .ensures,
+      c .before .before .enum-told .given .1,
+      c .number .ensures,
+    )
 
 pub kusikhut-band-line-spec : {M : Type 1} → statement M
 kusikhut-band-line-spec =

@@ -7,7 +7,7 @@ row-at-requires : tie.Need-row-at-requires
 row-at-requires c κs = search needs
 
 returns : tie.Need-returns
-returns c = cc
+returns c = rw (← c .before .row-at .ensures)
 
 pub kusikhut-row-spec : {M : Type 1} → statement M
 kusikhut-row-spec = tie.close (tie.spec row-at-requires returns)

@@ -22,7 +22,9 @@ refuse-requires : tie.Need-refuse-requires
 refuse-requires c κs = search needs
 
 returns : tie.Need-returns
-returns c = cc
+returns c =
+    let b = c .before .before .before in
+    rw (← b .before .before .update .ensures .0, b .check .given .1) (c .accept .ensures)
 
 returns-2 : tie.Need-returns-2
 returns-2 c =

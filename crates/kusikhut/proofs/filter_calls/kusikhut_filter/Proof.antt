@@ -25,7 +25,9 @@ refuse-requires : tie.Need-refuse-requires
 refuse-requires c κs = search needs
 
 returns : tie.Need-returns
-returns c = cc
+returns c =
+    let b = c .before .before in
+    rw (← b .before .before .wanted .ensures, b .enum-told .given .1) (c .accept .ensures)
 
 returns-2 : tie.Need-returns-2
 returns-2 c =
@@ -33,7 +35,9 @@ returns-2 c =
     rw (← b .before .before .wanted .ensures, b .enum-told2 .given .1) (c .accept2 .ensures)
 
 returns-3 : tie.Need-returns-3
-returns-3 c = cc
+returns-3 c =
+    let b = c .before .before .before in
+    rw (← b .before .before .wanted .ensures, b .why .given .1) (c .refuse .ensures)
 
 pub kusikhut-filter-spec : {M : Type 1} → statement M
 kusikhut-filter-spec =

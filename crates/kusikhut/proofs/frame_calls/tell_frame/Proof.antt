@@ -16,10 +16,12 @@ number-requires : tie.Need-number-requires
 number-requires c κs = search needs
 
 returns : tie.Need-returns
-returns c = cc
+returns c = rw (c .before .before .a .given .1)
 
 returns-2 : tie.Need-returns-2
-returns-2 c = rw (c .before .before .before .before .a2 .given .1) (cc)
+returns-2 c =
+    let valued = c .before .before in
+    rw (valued .before .before .a2 .given .1, c .number .ensures, valued .value .ensures)
 
 pub tell-frame-spec : {M : Type 1} → statement M
 tell-frame-spec =

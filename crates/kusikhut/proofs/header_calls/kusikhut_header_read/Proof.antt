@@ -22,10 +22,15 @@ number-requires : tie.Need-number-requires
 number-requires c κs = search needs
 
 returns : tie.Need-returns
-returns c = let b = c .before .before in rw (← b .before .before .read .ensures, b .h .given .1) (cc)
+returns c =
+    let b = c .before .before in
+    rw (← b .before .before .read .ensures, b .h .given .1, c .fields .ensures)
 
 returns-2 : tie.Need-returns-2
-returns-2 c = cc
+returns-2 c =
+    let valued = c .before .before in
+    let b = valued .before .before in
+    rw (← b .before .before .read .ensures, b .why .given .1, c .number .ensures, valued .value .ensures)
 
 pub kusikhut-header-read-spec : {M : Type 1} → statement M
 kusikhut-header-read-spec =

@@ -22,10 +22,14 @@ refuse-requires : tie.Need-refuse-requires
 refuse-requires c κs = search needs
 
 returns : tie.Need-returns
-returns c = cc
+returns c =
+    let b = c .before .before .before in
+    rw (← b .before .before .word-at .ensures, b .value .given .1) (c .accept .ensures)
 
 returns-2 : tie.Need-returns-2
-returns-2 c = cc
+returns-2 c =
+    let b = c .before .before .before in
+    rw (← b .before .before .word-at .ensures, b .why .given .1) (c .refuse .ensures)
 
 pub word-spec : {M : Type 1} → statement M
 word-spec =

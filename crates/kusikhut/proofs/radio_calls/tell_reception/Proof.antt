@@ -35,7 +35,7 @@ array-write-values : tie.Need-array-write-values
 array-write-values c = place-lt c
 
 returns : tie.Need-returns
-returns c = rw (c .before .before .before .a .given .1) (cc)
+returns c = rw (c .before .before .before .a .given .1, c .before .kind-number .ensures)
 
 returns-2 : tie.Need-returns-2
 returns-2 c =

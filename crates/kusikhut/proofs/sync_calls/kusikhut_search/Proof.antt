@@ -22,7 +22,10 @@ returns : tie.Need-returns
 returns c = let b = c .before .before in rw (← b .before .before .search .ensures, b .place .given .1)
 
 returns-2 : tie.Need-returns-2
-returns-2 c = cc
+returns-2 c =
+    let valued = c .before .before in
+    let b = valued .before .before in
+    rw (← b .before .before .search .ensures, b .why .given .1, c .number .ensures, valued .value .ensures)
 
 pub kusikhut-search-spec : {M : Type 1} → statement M
 kusikhut-search-spec =

@@ -85,10 +85,15 @@ pub fn valid_frame(random: &mut Random, format: Format) -> Vec<u8> {
     frame_of(format, &content).expect("the length is allowed")
 }
 
-/// A frame: valid in every other case, else with one wrong bit or byte, two
-/// wrong bits, or a wrong L.
+/// A frame: valid in every other case, else damaged.
 pub fn perhaps_damaged_frame(random: &mut Random, format: Format) -> Vec<u8> {
     let mut frame = valid_frame(random, format);
+    perhaps_damage(random, &mut frame);
+    frame
+}
+
+/// In every other case one wrong bit or byte, two wrong bits, or a wrong L.
+pub fn perhaps_damage(random: &mut Random, frame: &mut [u8]) {
     let place = random.below(frame.len());
     match random.below(14) {
         0 | 1 => frame[place] ^= 1 << random.below(8),
@@ -103,13 +108,18 @@ pub fn perhaps_damaged_frame(random: &mut Random, format: Format) -> Vec<u8> {
         }
         _ => {}
     }
-    frame
 }
 
-/// A byte buffer that begins with a frame: perhaps with bytes behind it, or cut
-/// short; now and then no frame at all.
+/// A byte buffer that begins with a frame, as `buffer_of` makes it.
 pub fn frame_buffer(random: &mut Random, format: Format) -> Vec<u8> {
-    let mut bytes = perhaps_damaged_frame(random, format);
+    let frame = perhaps_damaged_frame(random, format);
+    buffer_of(random, frame)
+}
+
+/// A byte buffer for a frame: perhaps with bytes behind it, or cut short; now and
+/// then no frame at all.
+pub fn buffer_of(random: &mut Random, frame: Vec<u8>) -> Vec<u8> {
+    let mut bytes = frame;
     match random.below(20) {
         0 => bytes.clear(),
         1 => bytes = vec![any_length(random)],
@@ -146,14 +156,20 @@ pub fn any_format(random: &mut Random) -> Format {
     random.pick(&Format::ALL)
 }
 
-pub fn frame_read(random: &mut Random) -> Vec<Argument> {
+/// The format by which a frame is read, and the one in which it was made: now and
+/// then a frame of one format is read as the other.
+pub fn formats(random: &mut Random) -> (Format, Format) {
     let format = any_format(random);
-    // Now and then a frame of one format is read as the other.
     let made_as = if random.once_in(12) {
         any_format(random)
     } else {
         format
     };
+    (format, made_as)
+}
+
+pub fn frame_read(random: &mut Random) -> Vec<Argument> {
+    let (format, made_as) = formats(random);
     let bytes = frame_buffer(random, made_as);
     let out = output_for(random, promised_content(format, &bytes));
     vec![number(format as u8), bytes.into(), out.into()]

@@ -4,6 +4,8 @@
 
 mod bytes;
 mod chips;
+mod correction;
+mod correction_inputs;
 mod names;
 mod radio;
 pub mod sequence;
@@ -15,6 +17,7 @@ use crate::frames::Format;
 use crate::implementation::Implementation;
 use crate::random::Random;
 
+pub use correction_inputs::correction_inputs;
 pub use store_inputs::store_inputs;
 
 /// Numbers whose product with 6, 8, 12 or 16, or whose sum with a small number,
@@ -70,6 +73,9 @@ pub fn case(random: &mut Random, operation: Operation) -> Case {
         Operation::FrameWrite => bytes::frame_write(random),
         Operation::FrameChange => bytes::frame_change(random),
         Operation::FrameSize => bytes::frame_size(random),
+        Operation::CorrectionWrite => correction::write(random),
+        Operation::CorrectionCheckBytes => correction::check_bytes(random),
+        Operation::CorrectionHeader => correction::header(random),
         Operation::Receive => radio::receive(random),
         Operation::ReceiveManchester => radio::receive_manchester(random),
         Operation::Send => radio::send(random),
@@ -99,7 +105,8 @@ pub fn case(random: &mut Random, operation: Operation) -> Case {
 
 /// Every input of the operations that have few: access, letters, frame sizes,
 /// all indices and channels a little beyond Table 21, and the lists of all bands
-/// a little beyond the longest, for every letter.
+/// a little beyond the longest, for every letter; and the small inputs of
+/// correction bytes.
 pub fn small_inputs() -> Vec<Case> {
     let mut cases = Vec::new();
     for cc in 0..=0xFFu8 {
@@ -131,6 +138,7 @@ pub fn small_inputs() -> Vec<Case> {
             }
         }
     }
+    cases.extend(correction_inputs());
     cases
 }
 

@@ -11,7 +11,7 @@ use crate::radio::{receive, receive_manchester, send};
 use crate::sync::Kind;
 
 /// C.2.2: the whole string of bytes, format A. C.1 has the same fields.
-const C2_FRAME: &str = "0F 44 AE 0C 78 56 34 12 01 07 44 47 78 0B 13 43 65 87 1E 6D";
+pub const C2_FRAME: &str = "0F 44 AE 0C 78 56 34 12 01 07 44 47 78 0B 13 43 65 87 1E 6D";
 
 /// C.2.3: the frame's chips.
 const C2_CHIPS: &str = "
@@ -22,7 +22,7 @@ const C2_CHIPS: &str = "
     011010011001101100010011001101110010011010110001";
 
 /// C.3.2: the whole string of bytes, format B.
-const C3_FRAME: &str = "14 44 AE 0C 78 56 34 12 01 07 8C 20 27 78 0B 13 43 65 87 7A C5";
+pub const C3_FRAME: &str = "14 44 AE 0C 78 56 34 12 01 07 8C 20 27 78 0B 13 43 65 87 7A C5";
 
 /// C.3.3: the frame's chips.
 const C3_CHIPS: &str = "

@@ -6,7 +6,7 @@ use crate::answer::{Answer, Refusal};
 use crate::chips::{encode_list, packed, Code};
 use crate::frames::{frame_of, Format};
 use crate::headers::{Header, HeaderKind};
-use crate::implementation::{Implementation, Second};
+use crate::implementation::{CorrectionCalls, Implementation, Second};
 use crate::sync::Kind;
 
 /// A number and its whole row.
@@ -39,6 +39,8 @@ fn refusals_have_their_numbers_and_values() {
         (Refusal::Unsure, 20, 0),
         (Refusal::NumbersUsedUp, 21, 0),
         (Refusal::StoreFull, 22, 0),
+        (Refusal::TooLongForCorrection, 23, 0),
+        (Refusal::AnotherCode, 24, 0),
     ];
     for (refusal, number, value) in all {
         is(Answer::refused(refusal, 1, 0), number, &[value]);
@@ -115,6 +117,26 @@ fn checks_and_frames() {
         3,
         &[0, 0, 3],
     );
+}
+
+#[test]
+fn correction_bytes() {
+    let mut frame = frame_of(Format::B, &content(218)).unwrap();
+    let write = |frame: &[u8], room| Second.correction_write(Format::B, frame, &mut vec![0; room]);
+    is(write(&frame, 257), 0, &[257]);
+    is(write(&frame, 256), 4, &[0]);
+    is(write(&frame[..222], 257), 1, &[0]);
+    is(write(&[128], 257), 2, &[0]);
+    frame[222] ^= 1;
+    is(write(&frame, 257), 3, &[2]);
+    let longer = frame_of(Format::B, &content(219)).unwrap();
+    is(write(&longer, 257), 23, &[0]);
+    is(Second.correction_check_bytes(&[1], &mut [0; 32]), 0, &[32]);
+    is(Second.correction_check_bytes(&[1], &mut [0; 31]), 4, &[0]);
+    is(Second.correction_check_bytes(&[1; 224], &mut []), 23, &[0]);
+    is(Second.correction_header(&[0x21, 0x04]), 0, &[]);
+    is(Second.correction_header(&[0x21]), 1, &[]);
+    is(Second.correction_header(&[0x42, 0x08]), 24, &[]);
 }
 
 #[test]

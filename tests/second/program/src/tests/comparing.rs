@@ -3,6 +3,7 @@
 
 use std::collections::BTreeSet;
 
+use super::correction_flaws::CorrectionFlaw;
 use super::store_flaws::StoreFlaw;
 use crate::answer::Answer;
 use crate::case::{Case, Operation, Outcome};
@@ -13,12 +14,12 @@ use crate::filter::Entries;
 use crate::frames::Format;
 use crate::generator::{case, one_of_each, small_inputs, store_inputs, words_cases, Cases};
 use crate::headers::Header;
-use crate::implementation::{Implementation, Second, StoreCalls};
+use crate::implementation::{CorrectionCalls, Implementation, Second, StoreCalls};
 use crate::random::Random;
 use crate::sync::{search, Kind, SYNC_CHIPS};
 
 pub const SEED: u64 = 20190;
-pub const COUNT: u64 = 30 * 1500;
+pub const COUNT: u64 = 33 * 1500;
 
 #[test]
 fn second_program_agrees_with_itself_and_meets_every_number() {
@@ -36,7 +37,7 @@ fn second_program_agrees_with_itself_and_meets_every_number() {
     }
     let table = stats.to_string();
     assert_eq!(table.lines().count(), 1 + Operation::CALLS.len() + 1);
-    assert!(table.ends_with("45000 cases"));
+    assert!(table.ends_with("49500 cases"));
 }
 
 #[test]
@@ -48,10 +49,16 @@ fn small_inputs_are_all_there() {
     assert_eq!(stats.count(Operation::ChannelCentre, 0), 103);
     assert_eq!(stats.count(Operation::ChannelRow, 0), 21);
     assert_eq!(stats.count(Operation::BandLine, 0), 2 * 103);
+    assert!(stats.cases(Operation::CorrectionHeader) > 65_536);
     let of_the_store = store_inputs().count();
     assert_eq!(stats.total() as usize, small_inputs().len() + of_the_store);
+    let of_correction = [
+        Operation::CorrectionWrite,
+        Operation::CorrectionCheckBytes,
+        Operation::CorrectionHeader,
+    ];
     for operation in Operation::CALLS {
-        if operation.of_store() {
+        if operation.of_store() || of_correction.contains(&operation) {
             assert_eq!(stats.numbers(operation), operation.numbers());
         }
     }
@@ -65,12 +72,12 @@ fn same_seed_same_cases() {
     assert_eq!(first, again);
     assert_ne!(first, other);
     // The seed 0 is a seed like the others.
-    assert_ne!(Cases::new(0).nth(3), Cases::new(0).nth(33));
+    assert_ne!(Cases::new(0).nth(3), Cases::new(0).nth(36));
 }
 
 #[test]
 fn a_case_survives_as_a_line_of_text() {
-    for case in Cases::new(11).take(30 * 200) {
+    for case in Cases::new(11).take(33 * 200) {
         let line = case.to_string();
         assert!(!line.contains('\n'));
         assert_eq!(Case::from_text(&line), Ok(case));
@@ -102,6 +109,9 @@ fn a_line_of_text_is_read_strictly() {
         "store_hear store= meter=0000000000000000 number=100000000",
         "store_add store= meter=0000000000000000 mode=100 format=0",
         "store_write store=",
+        "correction_write format=2 bytes= out=",
+        "correction_check_bytes word=0 out=",
+        "correction_header bytes= out=",
     ] {
         assert!(Case::from_text(wrong).is_err(), "{wrong}");
     }
@@ -110,7 +120,7 @@ fn a_line_of_text_is_read_strictly() {
 }
 
 /// Outcomes of many cases of one operation.
-fn outcomes(operation: Operation, count: usize) -> Vec<(Case, Outcome)> {
+pub fn outcomes(operation: Operation, count: usize) -> Vec<(Case, Outcome)> {
     let mut random = Random::new(77);
     (0..count)
         .map(|_| {
@@ -208,6 +218,8 @@ fn edges_of_the_outputs_are_met() {
         (Operation::Encode, Some(0)),
         (Operation::FrameRead, Some(1)),
         (Operation::FrameWrite, Some(0)),
+        (Operation::CorrectionWrite, Some(0)),
+        (Operation::CorrectionCheckBytes, Some(0)),
         (Operation::Receive, Some(4)),
         (Operation::ReceiveManchester, Some(4)),
         (Operation::Send, Some(0)),
@@ -321,10 +333,12 @@ pub enum Flaw {
     ReaderWordCounted,
     /// Wrong in a call of the settings store.
     Store(StoreFlaw),
+    /// Wrong in a call of correction bytes.
+    Correction(CorrectionFlaw),
 }
 
 /// The second program with one flaw. Its calls of the settings store stand in
-/// `store_flaws.rs`.
+/// `store_flaws.rs`, those of correction bytes in `correction_flaws.rs`.
 pub struct Broken(pub Flaw);
 
 impl Broken {
@@ -584,6 +598,10 @@ impl Implementation for Broken {
     fn store_calls(&self) -> Option<&dyn StoreCalls> {
         Some(self)
     }
+
+    fn correction_calls(&self) -> &dyn CorrectionCalls {
+        self
+    }
 }
 
 /// The last lines that begin with a number, their place moved on.
@@ -683,27 +701,33 @@ fn every_flaw_of_the_reader_is_found() {
     }
 }
 
-/// One wrong number in any field of any row is found, beside every answer
-/// number that the call gives: the fields that a refusal leaves zero as well.
+/// A wrong answer number is found, and one wrong number in any field of any row,
+/// beside every answer number that the call gives: the fields that a refusal
+/// leaves zero as well.
 #[test]
 fn every_field_of_every_row_is_compared() {
     let mut fields = 0;
     for operation in Operation::CALLS {
         for (number, case) in one_of_each(operation, operation.numbers(), &Second) {
-            for field in 0..case.run(&Second).answer.row.len() {
+            let spoiled = |spoil: &dyn Fn(&mut Answer)| {
                 let planted = |case: &Case| {
                     let mut outcome = case.run(&Second);
-                    outcome.answer.row[field] += 1;
+                    spoil(&mut outcome.answer);
                     outcome
                 };
                 let found = compare_outcomes(|case| case.run(&Second), planted, [case.clone()]);
-                let difference = found.expect_err(&format!("{operation:?} {number} {field}"));
-                assert_eq!(difference.first.answer.number, number);
+                found.err().map(|difference| difference.first.answer.number)
+            };
+            let found = spoiled(&|answer| answer.number += 1);
+            assert_eq!(found, Some(number), "{operation:?}");
+            for field in 0..case.run(&Second).answer.row.len() {
+                let found = spoiled(&|answer| answer.row[field] += 1);
+                assert_eq!(found, Some(number), "{operation:?} {field}");
                 fields += 1;
             }
         }
     }
-    assert_eq!(fields, 288);
+    assert_eq!(fields, 297);
 }
 
 #[test]

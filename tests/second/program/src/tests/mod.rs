@@ -3,6 +3,8 @@
 mod annex_c;
 mod answers;
 mod comparing;
+mod correction;
+mod correction_flaws;
 mod edges;
 mod hidden;
 mod orders;

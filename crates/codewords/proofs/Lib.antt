@@ -1,0 +1,12 @@
+pub mod GeneratorLaws
+pub mod DivisionLaws
+pub mod StepLaws
+pub mod FillLaws
+pub mod UniqueLaws
+pub mod NearLaws
+pub mod RootLaws
+pub mod NumbersLaws
+pub mod AnnexC
+pub mod HeaderLaws
+pub mod OutcomeLaws
+pub mod AnnexBlock

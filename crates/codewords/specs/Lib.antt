@@ -1,0 +1,3 @@
+pub mod CodeBlocks
+pub mod CheckBytes
+pub mod Corrections

@@ -1,0 +1,4 @@
+pub mod WordLaws
+pub mod RowLaws
+pub mod TurnLaws
+pub mod PutLaws
