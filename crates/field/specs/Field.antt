@@ -5,8 +5,8 @@
 --     timesBits n a b    a times the lowest n bits of b
 --     mul a b            a times b
 --     alphaTo n          alpha^n
--- That sums and products have the laws of a field is proved (proofs/FieldLaws), and that alpha's powers are all
--- elements but 0, so that no two of these have the product 0 (proofs/PrimitiveLaws).
+-- Proved are the laws of sums and products (order, brackets, a sum's product: proofs/FieldLaws), and that the powers of
+-- alpha are all elements but 0 and no two of these have the product 0 (proofs/PrimitiveLaws).
 use Prim.Native.Nat.{ℕ, zero, suc, _*_, _/_, _%_}
 use lib.Bits.{bitXor}
 
