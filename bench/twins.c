@@ -94,12 +94,12 @@ int twin_decode_three_of_six(const uint8_t *chips, size_t len, size_t start, siz
     return 0;
 }
 
-static size_t size_a(size_t n) { return n + 3 + 2 * ((n - 9 + 15) / 16); }
+size_t twin_size_a(size_t n) { return n + 3 + 2 * ((n - 9 + 15) / 16); }
 
 int twin_judge_a(const uint8_t *s, size_t len, size_t *size, size_t *wrong) {
     if (len == 0) return 1;
     if (s[0] < 10) return 2;
-    *size = size_a(s[0]);
+    *size = twin_size_a(s[0]);
     if (len < *size) return 1;
     for (size_t at = 0, left = s[0] + 1u, k = 10; left > 0; k = left < 16 ? left : 16) {
         uint16_t c = twin_check(s + at, k);
@@ -139,7 +139,7 @@ static size_t put_block(uint8_t *out, size_t at, size_t k) {
 
 int twin_write_a(const uint8_t *content, size_t n, uint8_t *out, size_t out_len) {
     if (n < 10 || n > 255) return 5;
-    if (out_len < size_a(n)) return 4;
+    if (out_len < twin_size_a(n)) return 4;
     out[0] = (uint8_t)n;
     memcpy(out + 1, content, 9);
     size_t at = put_block(out, 0, 10);
@@ -161,7 +161,7 @@ int twin_receive_t(const uint8_t *chips, size_t len, size_t start, size_t allowa
     a = twin_decode_three_of_six(chips, len, place + 16, 1, frame);
     if (a) return a;
     if (frame[0] < 10) return 2;
-    size_t size = size_a(frame[0]);
+    size_t size = twin_size_a(frame[0]);
     a = twin_decode_three_of_six(chips, len, place + 16, size, frame);
     if (a) return a;
     return twin_read_a(frame, size, out, out_len, n);

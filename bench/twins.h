@@ -12,6 +12,8 @@ int twin_decode_three_of_six(const uint8_t *chips, size_t len, size_t start, siz
 int twin_word_nrz(const uint8_t *chips, size_t len, size_t at, uint8_t *value);
 int twin_word_three_of_six(const uint8_t *chips, size_t len, size_t at, uint8_t *value);
 int twin_word_manchester(const uint8_t *chips, size_t len, size_t at, uint8_t *value);
+/* The size of a format A frame with n content bytes. */
+size_t twin_size_a(size_t n);
 /* 0, with the frame's size, or the frame's 1, 2 or 3, with the wrong block from 1. */
 int twin_judge_a(const uint8_t *s, size_t len, size_t *size, size_t *wrong);
 int twin_read_a(const uint8_t *s, size_t len, uint8_t *out, size_t out_len, size_t *n);

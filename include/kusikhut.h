@@ -20,6 +20,7 @@
  *   17 malformed store                18 store of unknown version     19 meter not held
  *   20 meter unsure                   21 session numbers used up      22 store full
  *   23 over 223 bytes, too long for correction bytes                24 correction header announces another code
+ *   25 proposed word is no code word of the correction bytes        26 proposed word differs in over 16 bytes
  * The numbers with each function below stand in the order in which they are judged; docs/ANSWERS.md says more of them.
  * A refusal (any number but 0) changes no byte of `out`, `frame` or `store`. `results` is always written whole: the
  * values named below in this order, zero where the answer has no such value. A refusal shows at most one value, so the
@@ -92,9 +93,9 @@ uint8_t kusikhut_change_b(uint8_t *frame, size_t frame_len, size_t place, uint8_
 
 /* Correction bytes for update frames (12.8): behind a frame stand a header of two bytes and 32 check bytes of
  * Reed-Solomon (255, 223), by which a receiver that knows the frame's length can mend up to 16 wrong bytes of frame and
- * check bytes together. Nothing here mends, and they make no frame accepted. Whether a frame has them is not told by
- * the frame (12.8.2.1), and not every mode may send them (Table 41): both are the caller's to know. The standard draws
- * attention to a patent on 12.8 (its introduction): see docs/CORRECTION.md.
+ * check bytes together. They make no frame accepted: a received frame is read as always, and so is one that was mended.
+ * Whether a frame has them is not told by the frame (12.8.2.1), and not every mode may send them (Table 41): both are
+ * the caller's to know. The standard draws attention to a patent on 12.8 (its introduction): see docs/CORRECTION.md.
  *
  * Writing the frame that `bytes` begin with, the header 21h 04h, and the check bytes: 0, or the frame's 1 (empty), 2,
  * 1, 3; 23 if the frame has over 223 bytes; 4. results[0]: bytes written, KUSIKHUT_CORRECTION_SIZE more than the frame
@@ -113,6 +114,30 @@ uint8_t kusikhut_correction_check_bytes(const uint8_t *word, size_t word_len, ui
 /* Reading the header from the first two bytes: 0 if it announces check bytes of Reed-Solomon (255, 223), or 1, 24. Each
  * bit of its ID is what two or three of the three copies say; bit 15 is not looked at. */
 uint8_t kusikhut_correction_header(const uint8_t *bytes, size_t bytes_len);
+
+/* Mending. Received are a frame, its header and its check bytes; a proposal is a frame and its 32 check bytes, without
+ * the header, and any routine may make it. It is taken exactly if it is a code word and at most 16 of its bytes differ
+ * from the received ones. At most one word with a given length byte is taken. If that is the length byte that was sent,
+ * and at most 16 bytes came wrong (the header not counted), it is the word that was sent. One with another length byte
+ * may be taken, too, and read: the frame's length is the caller's to know.
+ *
+ * Judging a proposal: 0, or 1 (it is empty), 2, 23, by its own length byte; 1 if it has fewer bytes than its frame and
+ * 32, or if fewer than its frame and KUSIKHUT_CORRECTION_SIZE were received; 25, 26. results[0]: how many bytes differ.
+ * The received header is skipped, whatever it is, and bytes behind either are not looked at. Nor are block checks: read
+ * the proposed frame afterwards (kusikhut_read_a, kusikhut_read_b), which may say 3. */
+uint8_t kusikhut_mending_judge_a(const uint8_t *proposal, size_t proposal_len,
+                                 const uint8_t *received, size_t received_len, uint64_t results[1]);
+uint8_t kusikhut_mending_judge_b(const uint8_t *proposal, size_t proposal_len,
+                                 const uint8_t *received, size_t received_len, uint64_t results[1]);
+
+/* Proposing: the received word with one wrong byte mended, if another byte at one place behind the length byte makes it
+ * a code word; else the received word as it is. 0, or 1 (nothing was received), 2, 23, by the received length byte; 1,
+ * 4. results[0]: bytes written, 32 more than the frame has. Bytes of out after them stay, and so do the received ones.
+ * A wrong length byte is not mended: another frame may then be proposed, taken and read. */
+uint8_t kusikhut_mending_propose_one_a(const uint8_t *received, size_t received_len, uint8_t *out, size_t out_len,
+                                       uint64_t results[1]);
+uint8_t kusikhut_mending_propose_one_b(const uint8_t *received, size_t received_len, uint8_t *out, size_t out_len,
+                                       uint64_t results[1]);
 
 /* Frames as chips. A kind is 0: mode T, format A; 1: mode C, format A; 2: mode C, format B; 3: Manchester, format A.
  * Receiving mode T or C: 0, or 10; 7 or 14; 1, 8; 1, 6; 2; 1, 6; 3; 4.

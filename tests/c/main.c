@@ -1,6 +1,6 @@
 /* Links libkusikhut.a from C and walks through a collector's day with the frame of EN 13757-4:2019, Annex C.2:
- * receive it, change a byte in it, send it on, write correction bytes behind it, number its sessions, and see refusals
- * leave lent memory alone. */
+ * receive it, change a byte in it, send it on, write correction bytes behind it, mend it by them, number its sessions,
+ * and see refusals leave lent memory alone. */
 #include "../../include/kusikhut.h"
 #include <stdio.h>
 #include <string.h>
@@ -142,6 +142,109 @@ static void correction_headers(void) {
     expect(announced(0x7FFF) == 24 && announced(0xFFFF) == 24, "announced: the reserved one");
 }
 
+/* The frame and its check bytes as they are sent, with the header between them, and as they are proposed. */
+enum { WORD = CORRECTED - 2 };
+
+static void sent_and_proposed(uint8_t *sent, uint8_t *word) {
+    uint64_t r[1];
+    expect(kusikhut_correction_write_a(frame, 20, sent, CORRECTED, r) == 0, "mending: there is something to mend");
+    memcpy(word, frame, 20);
+    memcpy(word + 20, checks, 32);
+}
+
+/* Each byte behind the length byte wrong once; those of the header do not count. */
+static void mending(void) {
+    uint8_t sent[CORRECTED], word[WORD], got[CORRECTED], copy[CORRECTED], out[WORD + 1], read[15];
+    uint64_t r[3];
+    sent_and_proposed(sent, word);
+    for (size_t at = 1; at < CORRECTED; at++) {
+        uint64_t counted = at != 20 && at != 21;
+        memcpy(got, sent, CORRECTED);
+        got[at] ^= 0x5A;
+        memcpy(copy, got, CORRECTED);
+        memset(out, 0xEE, sizeof out);
+        expect(kusikhut_mending_propose_one_a(got, CORRECTED, out, WORD, r) == 0 && r[0] == WORD, "propose: 52 bytes");
+        expect(memcmp(out, word, WORD) == 0 && out[WORD] == 0xEE, "propose: what was sent, and nothing behind it");
+        expect(memcmp(got, copy, CORRECTED) == 0, "propose: the received bytes stay");
+        expect(kusikhut_mending_judge_a(out, WORD, got, CORRECTED, r) == 0 && r[0] == counted, "judge: one differs");
+        expect(kusikhut_read_a(out, WORD, read, 15, r) == 0 && memcmp(read, content, 15) == 0, "mending: it is read");
+    }
+}
+
+/* Format B, with bytes behind what was received and behind what is proposed. */
+static void mending_b(void) {
+    uint8_t got[57], out[57];
+    uint64_t r[1];
+    memset(got, 0x55, sizeof got);
+    memset(out, 0xEE, sizeof out);
+    expect(kusikhut_correction_write_b(frame_b, 21, got, 55, r) == 0, "mending: format B");
+    got[54] ^= 1;
+    expect(kusikhut_mending_propose_one_b(got, 57, out, 57, r) == 0 && r[0] == 53, "propose: 53 bytes");
+    expect(memcmp(out, frame_b, 21) == 0 && memcmp(out + 21, checks_b, 32) == 0, "propose: format B's word");
+    expect(all(out + 53, 4, 0xEE), "propose: nothing behind it is touched");
+    expect(kusikhut_mending_judge_b(out, 57, got, 57, r) == 0 && r[0] == 1, "judge: format B");
+}
+
+/* Up to 16 wrong bytes, the length byte among them, leave the word that was sent; more do not. */
+static void judging(void) {
+    uint8_t got[CORRECTED], word[WORD];
+    uint64_t r[2] = {0xEE, 0xEE};
+    sent_and_proposed(got, word);
+    expect(kusikhut_mending_judge_a(word, WORD, got, CORRECTED, r) == 0 && r[0] == 0, "judge: none differs");
+    for (uint64_t wrong = 1; wrong <= 16; wrong++) {
+        got[wrong - 1] ^= 0xFF;
+        expect(kusikhut_mending_judge_a(word, WORD, got, CORRECTED, r) == 0 && r[0] == wrong, "judge: up to 16 differ");
+    }
+    got[16] ^= 0xFF;
+    expect(kusikhut_mending_judge_a(word, WORD, got, CORRECTED, r) == 26 && r[0] == 0, "judge: 17 differ");
+    word[51] ^= 1;
+    expect(kusikhut_mending_judge_a(word, WORD, got, CORRECTED, r) == 25 && r[0] == 0, "judge: 25 before 26");
+    expect(kusikhut_mending_judge_a(word, WORD, got, CORRECTED - 1, r) == 1 && r[0] == 0, "judge: 1 before 25");
+    expect(kusikhut_mending_judge_a(word, WORD - 1, got, CORRECTED, r) == 1 && r[0] == 0, "judge: a byte missing");
+    expect(kusikhut_mending_judge_a(word, 0, got, CORRECTED, r) == 1 && r[0] == 0, "judge: no byte");
+    word[0] = 9;
+    expect(kusikhut_mending_judge_a(word, WORD, got, 0, r) == 2 && r[0] == 0, "judge: the length byte, before 1");
+    word[0] = 197;
+    expect(kusikhut_mending_judge_a(word, WORD, got, 0, r) == 23 && r[0] == 0, "judge: 224 bytes, before 1");
+    expect(kusikhut_mending_judge_b((const uint8_t[1]){128}, 1, got, 0, r) == 2, "judge: no frame of format B has 128");
+    expect(r[1] == 0xEE, "judge: the row has one place");
+}
+
+/* Two wrong bytes, and a wrong length byte, are not mended: the received word is proposed, and is no code word. */
+static void not_mended(void) {
+    uint8_t got[CORRECTED], word[WORD], out[WORD];
+    uint64_t r[1];
+    sent_and_proposed(got, word);
+    got[1] ^= 1;
+    got[53] ^= 1;
+    expect(kusikhut_mending_propose_one_a(got, CORRECTED, out, WORD, r) == 0 && r[0] == WORD, "propose: two wrong");
+    expect(memcmp(out, got, 20) == 0 && memcmp(out + 20, got + 22, 32) == 0, "propose: the received word");
+    expect(kusikhut_mending_judge_a(out, WORD, got, CORRECTED, r) == 25 && r[0] == 0, "judge: no code word");
+    sent_and_proposed(got, word);
+    got[0] = 14;
+    expect(kusikhut_mending_propose_one_a(got, CORRECTED, out, WORD, r) == 0 && r[0] == 51, "propose: another length");
+    expect(memcmp(out, got, 19) == 0 && memcmp(out + 19, got + 21, 32) == 0, "propose: the received word of it");
+    expect(kusikhut_mending_judge_a(out, 51, got, CORRECTED, r) == 25 && r[0] == 0, "judge: no code word of it");
+    expect(kusikhut_mending_judge_a(word, WORD, got, CORRECTED, r) == 0 && r[0] == 1, "judge: the length byte differs");
+}
+
+static void proposing_refusals(void) {
+    uint8_t got[CORRECTED], word[WORD], out[WORD];
+    uint64_t r[2] = {0xEE, 0xEE};
+    sent_and_proposed(got, word);
+    memset(out, 0xEE, sizeof out);
+    got[0] = 9;
+    expect(kusikhut_mending_propose_one_a(got, 0, out, 0, r) == 1 && r[0] == 0, "propose: nothing received");
+    expect(kusikhut_mending_propose_one_a(got, 1, out, 0, r) == 2 && r[0] == 0, "propose: the length byte");
+    got[0] = 197;
+    expect(kusikhut_mending_propose_one_a(got, 1, out, 0, r) == 23 && r[0] == 0, "propose: 224 bytes");
+    got[0] = 15;
+    expect(kusikhut_mending_propose_one_a(got, CORRECTED - 1, out, 0, r) == 1 && r[0] == 0, "propose: 1 before 4");
+    expect(kusikhut_mending_propose_one_a(got, CORRECTED, out, WORD - 1, r) == 4 && r[0] == 0, "propose: no room");
+    expect(all(out, WORD, 0xEE), "propose: a refusal leaves lent memory");
+    expect(r[1] == 0xEE, "propose: the row has one place");
+}
+
 enum { SIZE = KUSIKHUT_STORE_SIZE };
 
 static const uint8_t meter[8] = {0xAE, 0x0C, 0x78, 0x56, 0x34, 0x12, 0x01, 0x07}, other[8] = {1};
@@ -224,6 +327,11 @@ int main(void) {
     correction_refusals();
     check_bytes();
     correction_headers();
+    mending();
+    mending_b();
+    judging();
+    not_mended();
+    proposing_refusals();
     new_store(store);
     numbers(store);
     restores(store);

@@ -23,8 +23,8 @@ from pathlib import Path
 from settled import ASKING, WORD, Function, equation, functions, head_of, imports
 
 PAGE = Path("crates/demands/specs/Demands.antt")
-CRATES = ("address", "channels", "chipreader", "correction", "crc", "filter", "frame", "header", "line", "radio",
-          "store", "sync")
+CRATES = ("address", "channels", "chipreader", "correction", "crc", "filter", "frame", "header", "line", "mending",
+          "radio", "store", "sync")
 # public functions that are no entry points: the layout of a header's kind, which `read` and `write` share
 INNER = {f"header::{name}" for name in ("ci_of", "has_receiver", "has_session", "session_place", "header_length")}
 BELOW = re.compile(r"Rattle·(?!kusikhut\.)\w+\.specs\.(?!declared\.)")

@@ -1,9 +1,9 @@
--- The refusals (document 01, "Answer numbers": the table's first and third column; document 02, 9/14, 11/14).
+-- The refusals (document 01, "Answer numbers": the table's first and third column; document 02, 9/14, 11/14, 12/14).
 --     numberOf r    the number that a refusal is given under; 0 is acceptance and no refusal
 --     valueOf r     what it returns besides: "nothing" is 0
 use Prim.Native.Nat.{ℕ}
 use Rattle.answers.specs.declared.Refusal.{Refusal}
-use Rattle.answers.specs.declared.Refusal.the-variants.{Short, BadLength, WrongCheck, NoRoom, BadContent, BadWord, NoSync, UnknownTail, BadPlace, OutOfRange, UnknownCi, ShortBody, NoSuchChannel, UsedUp, BadStore, UnknownVersion, NotHeld, Unsure, NumbersUsedUp, StoreFull, TooLong, UnknownCode}
+use Rattle.answers.specs.declared.Refusal.the-variants.{Short, BadLength, WrongCheck, NoRoom, BadContent, BadWord, NoSync, UnknownTail, BadPlace, OutOfRange, UnknownCi, ShortBody, NoSuchChannel, UsedUp, BadStore, UnknownVersion, NotHeld, Unsure, NumbersUsedUp, StoreFull, TooLong, UnknownCode, NotCode, TooFar}
 
 abbrev pub numberOf : Refusal → ℕ
 numberOf Short = 1
@@ -28,6 +28,8 @@ numberOf NumbersUsedUp = 21
 numberOf StoreFull = 22
 numberOf TooLong = 23
 numberOf UnknownCode = 24
+numberOf NotCode = 25
+numberOf TooFar = 26
 
 abbrev pub valueOf : Refusal → ℕ
 valueOf Short = 0
@@ -52,3 +54,5 @@ valueOf NumbersUsedUp = 0
 valueOf StoreFull = 0
 valueOf TooLong = 0
 valueOf UnknownCode = 0
+valueOf NotCode = 0
+valueOf TooFar = 0

@@ -49,6 +49,10 @@ pub enum Refusal {
     TooLong,
     // The correction header announces bytes of another code.
     UnknownCode,
+    // The proposed word is no code word.
+    NotCode,
+    // The proposed word differs from the received one in too many bytes.
+    TooFar,
 }
 
 // What a writer answers: the bytes written.
@@ -83,6 +87,8 @@ pub fn number(refusal: Refusal) -> u8
         Refusal::StoreFull => 22,
         Refusal::TooLong => 23,
         Refusal::UnknownCode => 24,
+        Refusal::NotCode => 25,
+        Refusal::TooFar => 26,
     }
 }
 
@@ -113,5 +119,7 @@ pub fn value(refusal: Refusal) -> usize
         Refusal::StoreFull => 0,
         Refusal::TooLong => 0,
         Refusal::UnknownCode => 0,
+        Refusal::NotCode => 0,
+        Refusal::TooFar => 0,
     }
 }

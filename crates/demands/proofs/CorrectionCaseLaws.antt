@@ -7,8 +7,8 @@ use Prim.Native.Nat.{ℕ, zero, suc, _+_, _*_, _/_, _<_}
 use native.Mathlib.Omega.{arith}
 use borrow.Author.Tests.{eqb-true, eqb-false}
 use lib.Dec.{eqb}
+use Rattle.ground.proofs.CaseLaws.{by-test}
 use Rattle.codewords.specs.Corrections.{bitOf, idOf}
-use Rattle.sessions.proofs.TestLaws.{by-test}
 use Rattle.demands.specs.CorrectionCases.{bitAt, Most, IdIs}
 
 -- of three bits two are alike, and half their sum is what these are

@@ -1,4 +1,7 @@
 -- What the page says of a frame whose correction was written (specs/Demands).
+--     read-alike              two buffers that begin with one frame are read alike
+--     correcting-put          where the writer accepts, what it put: the frame, its size and what it leaves in memory
+--     correcting-word         the word that stands there, frame and check bytes
 --     correcting-reads        reading takes the frame with its correction behind it as before
 --     correcting-announced    the header behind the frame announces its correction
 --     correcting-corrects     the check bytes written are those that correct the frame's bytes
@@ -7,9 +10,10 @@
 use mathlib.Core.Bool.{Bool, true, false, cond}
 use mathlib.Core.List.{List, _++_, append-assoc}
 use mathlib.Core.Logic.{_↔_}
-use mathlib.Core.Path.{_≡_, refl, sym, _∙_, ap, subst}
-use Prim.Native.Nat.{ℕ, _+_, _-_}
+use mathlib.Core.Path.{_≡_, refl, sym, _∙_, ap, ap₂, subst}
+use Prim.Native.Nat.{ℕ, _+_, _-_, _≤_}
 use native.Mathlib.Omega.{arith}
+use borrow.Author.Tests.{ltb-false}
 use lib.Dec.{ltb}
 use lib.ListN.{length, take, drop, length-append}
 use lib.Seq.{length-take-le, take-at, drop-at}
@@ -29,15 +33,17 @@ use Rattle.codewords.specs.declared.Announced.{Announced}
 use Rattle.codewords.specs.CodeBlocks.{Corrects}
 use Rattle.codewords.specs.CheckBytes.{checksOf}
 use Rattle.codewords.specs.Corrections.{headerOf, corrected, putCorrected, correctingOf, bitOf, announcedOf}
+use Rattle.codewords.proofs.DivisionLaws.{length-checksOf}
 use Rattle.codewords.proofs.UniqueLaws.{corrects-checks, corrects-only}
 
 -- what was put behind a frame of z bytes, where the answer is y
-record Put (s d : List ℕ) (o : Outcome Written) (j : Frame) (y : ℕ) : Type 0 where
-  z : ℕ
-  n : ℕ
-  frame : j ≡ Frame.Accepted z n
-  size : z + 34 ≡ y
-  memory : o .memory ≡ corrected (take z s) ++ drop (z + 34) d
+pub record Put (s d : List ℕ) (o : Outcome Written) (j : Frame) (y : ℕ) : Type 0 where
+  pub z : ℕ
+  pub n : ℕ
+  pub frame : j ≡ Frame.Accepted z n
+  pub most : z ≤ 223
+  pub size : z + 34 ≡ y
+  pub memory : o .memory ≡ corrected (take z s) ++ drop (z + 34) d
 
 module _ (s d : List ℕ) (y : ℕ) where
   abbrev putBy : ℕ → Bool → Bool → Outcome Written
@@ -47,30 +53,32 @@ module _ (s d : List ℕ) (y : ℕ) where
       (record { answer = Written.Accepted (z + 34); memory = corrected (take z s) ++ drop (z + 34) d }))
 
   put-by :
-      (z n : ℕ) (t u : Bool) → putBy z t u .answer ≡ Written.Accepted y
+      (z n : ℕ) (t u : Bool) → ltb 223 z ≡ t → putBy z t u .answer ≡ Written.Accepted y
       → Put s d (putBy z t u) (Frame.Accepted z n) y
-  put-by z n true u h = absurd (zero-not-one (cc))
-  put-by z n false true h = absurd (zero-not-one (cc))
-  put-by z n false false h =
-      record { z = z; n = n; frame = refl; size = cc; memory = refl }
+  put-by z n true u long h = absurd (zero-not-one (cc))
+  put-by z n false true long h = absurd (zero-not-one (cc))
+  put-by z n false false long h =
+      record { z = z; n = n; frame = refl; most = ltb-false 223 z long; size = cc; memory = refl }
 
   put-accepted :
       (j : Frame) → putCorrected s d j .answer ≡ Written.Accepted y → Put s d (putCorrected s d j) j y
   unfolding putCorrected
-  put-accepted (Frame.Accepted z n) h = put-by z n (ltb 223 z) (ltb (length d) (z + 34)) h
+  put-accepted (Frame.Accepted z n) h = put-by z n (ltb 223 z) (ltb (length d) (z + 34)) refl h
   put-accepted (Frame.Refused r) h = absurd (zero-not-one (cc))
 
--- two buffers that begin with one frame are read alike
-read-alike :
+pub read-alike :
     {f : Format} {s m : List ℕ} {z : ℕ} {c : List ℕ} → FrameAt f s z c → FrameAt f m z c
     → (e : List ℕ) → readingOf f m e ≡ readingOf f s e
 unfolding readingOf takenOut
 read-alike p q e = rw (judgeOf-frame p, judgeOf-frame q, contentIn-frame p, contentIn-frame q)
 
 module _ (f : Format) (s d : List ℕ) (y : ℕ) (h : correctingOf f s d .answer ≡ Written.Accepted y) where
-  put : Put s d (correctingOf f s d) (judgeOf f s) y
+  pub correcting-put : Put s d (correctingOf f s d) (judgeOf f s) y
   unfolding correctingOf
-  put = put-accepted s d y (judgeOf f s) h
+  correcting-put = put-accepted s d y (judgeOf f s) h
+
+  abbrev put : Put s d (correctingOf f s d) (judgeOf f s) y
+  put = correcting-put
 
   abbrev m : List ℕ
   m = correctingOf f s d .memory
@@ -107,6 +115,11 @@ module _ (f : Format) (s d : List ℕ) (y : ℕ) (h : correctingOf f s d .answer
       = put .memory ∙ (append-assoc w (headerOf 1 ++ checksOf w) rest ∙ sym (append-assoc w (headerOf 1) _)) in
       rw memory
       (drop-at (w ++ headerOf 1) _ (put .z + 2) (length-append w (headerOf 1) ∙ ap (λ k. k + 2) length-word))
+
+  pub correcting-word : take (put .z) m ++ take 32 (drop (put .z + 2) m) ≡ w ++ checksOf w
+  correcting-word =
+      ap₂ (λ (u v : List ℕ). u ++ take 32 v) take-word drop-word
+      ∙ ap (λ (c : List ℕ). w ++ c) (take-at (checksOf w) rest 32 (length-checksOf w))
 
   pub correcting-corrects : Bytes s → Corrects (take (y - 34) m) (take 32 (drop (y - 32) m))
   correcting-corrects bytes =

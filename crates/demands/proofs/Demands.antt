@@ -1,6 +1,7 @@
 -- The customer's demands hold: each record of the page (specs/Demands), and the law that shows each of its fields.
 use mathlib.Core.Bool.{cond}
 use mathlib.Core.List.{List, _∷_, map}
+use mathlib.Core.Logic.{⊎-elim}
 use mathlib.Core.Path.{_≡_, refl, sym, _∙_, ap, subst}
 use Prim.Native.Nat.{ℕ, zero, suc, _<_}
 use lib.Dec.{ltb}
@@ -40,8 +41,11 @@ use Rattle.sessions.proofs.ExactLaws.{fileOf-exactly}
 use Rattle.sessions.proofs.HistoryLaws.{running, restored-afresh}
 use Rattle.codewords.proofs.FillLaws.{fill-code, fill-checks}
 use Rattle.codewords.proofs.NearLaws.{near-one}
+use Rattle.proposals.proofs.ProposalLaws.{taken-exactly}
+use Rattle.proposals.proofs.WrittenLaws.{taken-once, taken-judged}
+use Rattle.proposals.proofs.TwoLengths.{heard, short, long, all-are-bytes, long-is, short-is}
 use Rattle.kusikhut.specs.Told.{told, refusalPlace}
-use Rattle.demands.specs.Demands.{ChipNumbers, FrameNumbers, MeterNumbers, StoreNumbers, Plain, AcceptedRows, RefusedRows, StoreRows, InCodes, InHeaders, InBytes, InChips, Changes, StoreFiles, StoreMeters, StorePromise, CorrectionNumbers, CorrectionPromise}
+use Rattle.demands.specs.Demands.{ChipNumbers, FrameNumbers, MeterNumbers, StoreNumbers, Plain, AcceptedRows, RefusedRows, StoreRows, InCodes, InHeaders, InBytes, InChips, Changes, StoreFiles, StoreMeters, StorePromise, CorrectionNumbers, CorrectionPromise, MendingNumbers, MendingPromise}
 use Rattle.demands.specs.Cases.{Spells}
 use Rattle.demands.specs.Touched.{Touched}
 use Rattle.demands.proofs.LineRuleLaws as line
@@ -56,6 +60,8 @@ use Rattle.demands.proofs.StorePutLaws.{withMeter-puts}
 use Rattle.demands.proofs.StorePromiseLaws.{emptying-within, written-read, restoring-restores, afterAll-within}
 use Rattle.demands.proofs.CorrectionRuleLaws as correction
 use Rattle.demands.proofs.CorrectionPromiseLaws.{correcting-reads, correcting-announced, correcting-corrects, checks-correct}
+use Rattle.demands.proofs.MendingRuleLaws as mending
+use Rattle.demands.proofs.MendingPromiseLaws.{one-wrong-byte, code-word-alone, length-byte-stays, written-taken, taken-written, mended-and-read}
 use Rattle.demands.proofs.TouchLaws.{change-touched}
 
 pub chip-numbers : ChipNumbers
@@ -230,6 +236,7 @@ accepted-rows =
       letters = λ x y z. refl;
       no-letters = refl;
       filtering = (refl, refl);
+      judging-a-proposal = λ d. refl;
     }
 
 pub refused-rows : RefusedRows
@@ -244,6 +251,7 @@ refused-rows =
       searching = λ r. refl;
       reading-a-header = λ r. refl;
       filtering = λ r. refl;
+      judging-a-proposal = λ r. refl;
       wrong-block = λ b. refl;
       bad-word = λ w. refl;
       unknown-tail = λ p. refl;
@@ -311,4 +319,27 @@ correction-promise =
       announced = correcting-announced;
       told-number = (refl, λ r. refl);
       read-as-before = λ f s d e y h. correcting-reads f s d y h e;
+    }
+
+pub mending-numbers : MendingNumbers
+mending-numbers =
+    record {
+      judging-a-proposal = mending.judge-judged;
+      proposing-for-one-byte = mending.propose-judged 1 (omega arith);
+    }
+
+pub mending-promise : MendingPromise
+mending-promise =
+    record {
+      taken-exactly = taken-exactly;
+      then-read = taken-judged;
+      one-wrong-byte = one-wrong-byte;
+      code-word-alone = code-word-alone;
+      else-received = λ w none m is. ⊎-elim (λ n. absurd (none m n)) (λ p. p .1) is;
+      length-byte-stays = length-byte-stays;
+      mended-and-read = mended-and-read;
+      taken-once = taken-once;
+      written-is-taken = written-taken;
+      taken-is-written = taken-written;
+      two-lengths = (heard, (long, (short, (all-are-bytes, (long-is, short-is)))));
     }

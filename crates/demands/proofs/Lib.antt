@@ -16,5 +16,7 @@ pub mod StorePromiseLaws
 pub mod CorrectionCaseLaws
 pub mod CorrectionRuleLaws
 pub mod CorrectionPromiseLaws
+pub mod MendingRuleLaws
+pub mod MendingPromiseLaws
 pub mod Demands
 pub mod Starred

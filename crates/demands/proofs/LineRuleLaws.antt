@@ -135,6 +135,8 @@ ten Refusal.StoreFull e = absurd (omega arith)
 -- nor of correction bytes
 ten Refusal.TooLong e = absurd (omega arith)
 ten Refusal.UnknownCode e = absurd (omega arith)
+ten Refusal.NotCode e = absurd (omega arith)
+ten Refusal.TooFar e = absurd (omega arith)
 
 closed-is : (a : Answer) → isClosed a ≡ true → a ≡ Answer.Refused Refusal.OutOfRange
 closed-is Answer.Ready e = absurd (false≢true e)

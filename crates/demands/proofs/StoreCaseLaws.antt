@@ -15,6 +15,7 @@ use native.Mathlib.Omega.{arith}
 use borrow.Author.Tests.{ltb-true, ltb-false}
 use lib.Dec.{eqb, ltb}
 use lib.ListN.{length, getD}
+use Rattle.ground.proofs.CaseLaws.{by-test}
 use Rattle.sessions.specs.declared.Meter.{Meter}
 use Rattle.sessions.specs.Meters.{Store, stranger, meterOf, holds, put}
 use Rattle.sessions.specs.Changes.{restored}
@@ -23,7 +24,6 @@ use Rattle.sessions.specs.Valid.{Valid}
 use Rattle.sessions.proofs.OnceLaws.{Once, place-holds, unlike-once}
 use Rattle.sessions.proofs.PutLaws.{meterOf-address, meterOf-stranger, length-put-held, length-put-new, addresses}
 use Rattle.sessions.proofs.NewcomerLaws as session
-use Rattle.sessions.proofs.TestLaws.{by-test}
 use Rattle.demands.specs.StoreCases.{HeldAs, Held, KnownAs, Unlisted, FullFor, newcomers}
 use Rattle.demands.proofs.RuleLaws.{Tells, tells-lt}
 

@@ -17,7 +17,7 @@ use Rattle.answers.specs.declared.Refusal.{Refusal}
 use Rattle.answers.specs.declared.Written.{Written}
 use Rattle.answers.specs.Outcome.{Outcome, leaving}
 use Rattle.ground.specs.Bytes.{Bytes}
-use Rattle.ground.proofs.CaseLaws.{zero-not-one}
+use Rattle.ground.proofs.CaseLaws.{by-test, zero-not-one}
 use Rattle.sessions.specs.Meters.{Store, Result, Refuse, Keep, holds}
 use Rattle.sessions.specs.Changes.{emptyStore, restored, restoredBy}
 use Rattle.sessions.specs.StoreFile.{bytesOf, sizeOf, memorySize, memoryOf, fileOf}
@@ -29,7 +29,6 @@ use Rattle.sessions.proofs.LeavesLaws.{length-bytesOf, bytes-leaves, memoryOf-l
 use Rattle.sessions.proofs.ValidLaws.{restoredBy-valid}
 use Rattle.sessions.proofs.MemoryStepLaws.{left, after-kept}
 use Rattle.sessions.proofs.StepLaws.{onStore}
-use Rattle.sessions.proofs.TestLaws.{by-test}
 use Rattle.sessions.proofs.HistoryLaws.{onStore-valid}
 use Rattle.demands.specs.StoreAfter.{Restores}
 use Rattle.demands.proofs.StorePutLaws.{restored-restores}

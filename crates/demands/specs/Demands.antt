@@ -15,7 +15,7 @@ use Prim.Native.Nat.{ℕ, _+_, _-_, _*_, _/_, _%_, _≤_, _<_}
 use denote.Ref.{RefT, now}
 use lib.Dec.{ltb}
 use lib.Ieee.Exact.{HasValue}
-use lib.ListN.{length, getD, take, drop, replicate}
+use lib.ListN.{length, getD, take, drop, set, replicate}
 use Rattle.answers.specs.declared.Refusal.{Refusal}
 use Rattle.answers.specs.declared.Written.{Written}
 use Rattle.answers.specs.Outcome.{Outcome}
@@ -81,26 +81,33 @@ use Rattle.codewords.specs.declared.Announced.{Announced}
 use Rattle.codewords.specs.CodeBlocks.{CodeBlock, Corrects}
 use Rattle.codewords.specs.CheckBytes.{checksOf}
 use Rattle.codewords.specs.Corrections.{correctingOf, checkingOf, announcedOf}
+use Rattle.proposals.specs.declared.Proposal.{Proposal}
+use Rattle.proposals.specs.Received.{received}
+use Rattle.proposals.specs.Near.{Near, Nearest}
+use Rattle.proposals.specs.Proposals.{proposalOf, proposingOf}
+use Rattle.proposals.specs.TakenWith.{TakenWith}
 use Rattle.channels.specs.declared.listing.Band.{Band}
 use Rattle.channels.specs.declared.listing.Line.{Line}
 use Rattle.channels.specs.declared.plan.Centre.{Centre}
 use Rattle.channels.specs.Table21.{entryOf, channelsOf, quartersOf}
 use Rattle.channels.specs.Plan.{float, rowOf, centreOf}
 use Rattle.channels.specs.Listing.{bandOf, rowsOf, linesFrom, linesOf, lineAt}
-use Rattle.kusikhut.specs.Told.{Told, told, tells, toldUpdated, toldDecoded, toldWord, toldWritten, toldSize, toldFrame, toldSync, toldHeader, toldMaker, toldVerdict, toldValue, toldLookup, toldLine, toldCentre, toldReception, toldAnnounced, kindNumber}
+use Rattle.kusikhut.specs.Told.{Told, told, tells, toldUpdated, toldDecoded, toldWord, toldWritten, toldSize, toldFrame, toldSync, toldHeader, toldMaker, toldVerdict, toldValue, toldLookup, toldLine, toldCentre, toldReception, toldAnnounced, toldProposal, kindNumber}
 use Rattle.demands.specs.Rules.{Judged, JudgedLent}
 use Rattle.demands.specs.Cases.{Spells}
 use Rattle.demands.specs.Ladders as rule
 use Rattle.demands.specs.StoreAfter.{Puts, Restores}
 use Rattle.demands.specs.StoreLadders as store
 use Rattle.demands.specs.CorrectionLadders as correction
+use Rattle.demands.specs.MendingLadders as mending
+use Rattle.demands.specs.MendedAgain.{MendedAgain}
 use Rattle.demands.specs.Touched.{Touched}
 
 -- Demand 1. Every call answers, whatever it is given, even an empty buffer. Bad input is refused with a number, always
 -- the first that applies: each number is given exactly in its case, with its value, and a refused call changes no byte
 -- of the buffer that it was lent for its output. What a call answers otherwise is said too. The ladders say in which
--- order the cases are judged (specs/Ladders, StoreLadders, CorrectionLadders), and specs/Cases, StoreCases and
--- CorrectionCases what each case means.
+-- order the cases are judged (specs/Ladders, StoreLadders, CorrectionLadders, MendingLadders), and specs/Cases,
+-- StoreCases and CorrectionCases what each case means.
 --
 -- Chips: line codes, chip reader, search.
 pub record ChipNumbers : Type 0 where
@@ -271,6 +278,17 @@ pub record CorrectionNumbers : Type 0 where
   -- by correction::announced, kusikhut_correction_header
   pub reading-the-header : (s : List ℕ) → Judged Announced.Refused (correction.announceRule s) (announcedOf s)
 
+-- Proposals for received words (document 02, 12/14). A proposal that is judged is bytes; so is what one is made for.
+pub record MendingNumbers : Type 0 where
+  -- by mending::judge, kusikhut_mending_judge_a, kusikhut_mending_judge_b
+  pub judging-a-proposal :
+      (f : Format) (p : List ℕ) → Bytes p → (s : List ℕ)
+      → Judged Proposal.Refused (mending.judgeRule f p s) (proposalOf f p s)
+  -- by mending::propose_one, kusikhut_mending_propose_one_a, kusikhut_mending_propose_one_b
+  pub proposing-for-one-byte :
+      (f : Format) (s : List ℕ) → Bytes s → (d : List ℕ)
+      → JudgedLent Written.Refused d (mending.proposeRule 1 f s d) (proposingOf 1 f s d)
+
 -- Calls that are never refused.
 pub record Plain : Type 0 where
   -- by crc::check, kusikhut_check
@@ -329,6 +347,7 @@ pub record AcceptedRows : Type 0 where
   pub letters : (x y z : ℕ) → toldMaker (Maker.Three x y z) ≡ told 0 (1 ∷ x ∷ y ∷ z ∷ [])
   pub no-letters : toldMaker Maker.NoLetters ≡ told 0 (0 ∷ 0 ∷ 0 ∷ 0 ∷ [])
   pub filtering : (toldVerdict Verdict.Wanted ≡ told 0 (1 ∷ [])) × (toldVerdict Verdict.Unwanted ≡ told 0 (0 ∷ []))
+  pub judging-a-proposal : (d : ℕ) → toldProposal (Proposal.Taken d) ≡ told 0 (d ∷ [])
 
 pub record RefusedRows : Type 1 where
   pub updating-a-check : (r : Refusal) → toldUpdated (Updated.Refused r) ≡ told (numberOf r) (valueOf r ∷ [])
@@ -341,6 +360,7 @@ pub record RefusedRows : Type 1 where
   pub reading-a-header :
       (r : Refusal) → toldHeader (HeaderReading.Refused r) ≡ told (numberOf r) (valueOf r ∷ replicate 13 0)
   pub filtering : (r : Refusal) → toldVerdict (Verdict.Refused r) ≡ told (numberOf r) (valueOf r ∷ [])
+  pub judging-a-proposal : (r : Refusal) → toldProposal (Proposal.Refused r) ≡ told (numberOf r) (valueOf r ∷ [])
   pub wrong-block :
       (b : ℕ)
       → toldReception (Reception.Refused (Refusal.WrongCheck b)) ≡ told 3 (0 ∷ 0 ∷ 0 ∷ 0 ∷ 0 ∷ b ∷ 0 ∷ [])
@@ -543,3 +563,63 @@ pub record CorrectionPromise : Type 0 where
   pub read-as-before :
       (f : Format) (s d e : List ℕ) (y : ℕ) → correctingOf f s d .answer ≡ Written.Accepted y
       → readingOf f (correctingOf f s d .memory) e ≡ readingOf f s e
+
+-- Document 02, 12/14, mending. A proposal is taken with d exactly where it is a code word of 11/14 and differs from the
+-- received word in d bytes, d at most 16 (`TakenWith`, in numbers). A taken frame is whole: its block checks are right,
+-- or reading says 3. The proposer (`proposing-for-one-byte`: what it proposes is `Nearest 1`) mends every single wrong
+-- byte of frame or check bytes but the length byte, leaves a code word alone, and proposes the received word else; the
+-- length byte always stays.
+--
+-- End to end: take an accepted frame of at most 223 bytes, write its correction bytes, change any one byte behind the
+-- length byte to any other, header bytes too. What is proposed is the word that was written, it is taken, with one
+-- differing byte at most, and reading its frame gives the content again.
+--
+-- A taken proposal is the right one: of one length byte no two words are taken for one reception. Where at most 16
+-- bytes came wrong, those of the header not counted, the word that was written is taken, and no other with its length
+-- byte is. Across lengths that is not so: one wrong bit of a length byte can leave another frame, whose word is taken
+-- too.
+pub record MendingPromise : Type 0 where
+  pub taken-exactly :
+      (f : Format) (p s : List ℕ) (d : ℕ) → Bytes p
+      → (proposalOf f p s ≡ Proposal.Taken d) ↔ ((z : ℕ) × TakenWith f p s z d)
+  pub then-read :
+      (f : Format) (p s : List ℕ) (d : ℕ) → Bytes p → proposalOf f p s ≡ Proposal.Taken d
+      → ((z : ℕ) × ((n : ℕ) × (judgeOf f p ≡ Frame.Accepted z n)))
+      ⊎ ((b : ℕ) × (judgeOf f p ≡ Frame.Refused (Refusal.WrongCheck b)))
+  pub one-wrong-byte :
+      (c : List ℕ) (i b : ℕ) → Bytes c → length c ≤ 255 → CodeBlock c → 0 < i → (m : List ℕ) → Nearest 1 (set c i b) m
+      → m ≡ c
+  pub code-word-alone :
+      (c : List ℕ) → Bytes c → length c ≤ 255 → CodeBlock c → (m : List ℕ) → Nearest 1 c m → m ≡ c
+  pub else-received :
+      (w : List ℕ) → ((c : List ℕ) → Near 1 w c → ⊥) → (m : List ℕ) → Nearest 1 w m → m ≡ w
+  pub length-byte-stays : (w m : List ℕ) → Nearest 1 w m → getD m 0 0 ≡ getD w 0 0
+  pub mended-and-read :
+      (f : Format) (s room : List ℕ) (z n : ℕ) → Bytes s → readingOf f s room .answer ≡ Frame.Accepted z n → z ≤ 223
+      → (lent : List ℕ) → z + 34 ≤ length lent
+      → let m = correctingOf f s lent .memory in
+      (i b : ℕ) → 1 ≤ i → i < z + 34 → b < 256 → (e : List ℕ) → z + 32 ≤ length e
+      → let r = set m i b in
+      let differing = apart (received z r) (received z m) in
+      (correctingOf f s lent .answer ≡ Written.Accepted (z + 34))
+      × ((differing ≤ 1) × MendedAgain 1 f s m r e z differing)
+  pub taken-once :
+      (f : Format) (p q s : List ℕ) (z c d : ℕ) → Bytes p → Bytes q → getD p 0 0 ≡ getD q 0 0 → TakenWith f p s z c
+      → proposalOf f q s ≡ Proposal.Taken d → take (z + 32) p ≡ take (z + 32) q
+  pub written-is-taken :
+      (f : Format) (s lent : List ℕ) (y : ℕ) → Bytes s → correctingOf f s lent .answer ≡ Written.Accepted y
+      → let z = y - 34 in
+      let word = received z (correctingOf f s lent .memory) in
+      (r : List ℕ) → y ≤ length r → apart (received z r) word ≤ 16
+      → proposalOf f word r ≡ Proposal.Taken (apart (received z r) word)
+  pub taken-is-written :
+      (f : Format) (s lent : List ℕ) (y : ℕ) → Bytes s → correctingOf f s lent .answer ≡ Written.Accepted y
+      → let z = y - 34 in
+      let word = received z (correctingOf f s lent .memory) in
+      (r : List ℕ) → y ≤ length r → apart (received z r) word ≤ 16
+      → (p : List ℕ) (d : ℕ) → Bytes p → getD p 0 0 ≡ getD s 0 0 → proposalOf f p r ≡ Proposal.Taken d
+      → take (z + 32) p ≡ word
+  pub two-lengths :
+      (s : List ℕ) × ((p : List ℕ) × ((q : List ℕ) × ((Bytes s × (Bytes p × Bytes q))
+      × (((proposalOf Format.B p s ≡ Proposal.Taken 1) × (judgeOf Format.B p ≡ Frame.Accepted 103 100))
+      × ((proposalOf Format.B q s ≡ Proposal.Taken 0) × (judgeOf Format.B q ≡ Frame.Accepted 71 68))))))

@@ -6,5 +6,7 @@ pub mod StoreAfter
 pub mod StoreLadders
 pub mod CorrectionCases
 pub mod CorrectionLadders
+pub mod MendingLadders
+pub mod MendedAgain
 pub mod Touched
 pub mod Demands

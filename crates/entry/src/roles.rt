@@ -6,10 +6,12 @@ ghost use mathlib.Core.Path.{_≡_};
 ghost use lib.ListN.{replicate};
 ghost use Rattle.channels.specs.Plan.{centreOf};
 ghost use Rattle.crc.specs.CheckUpdate.{updating};
+ghost use Rattle.frame.specs.declared.Format.{Format};
 ghost use Rattle.header.specs.declared.layout.HeaderKind.the-variants.{Plain, Secured, Addressed, AddressedSecured};
 ghost use Rattle.line.specs.declared.codes.Code.the-variants.{Nrz, ThreeOfSix, Manchester};
+ghost use Rattle.proposals.specs.Proposals.{proposalOf};
 ghost use Rattle.sync.specs.SyncSearch.{searchOf};
-ghost use Rattle.kusikhut.specs.Told.{told, shown, toldUpdated, toldCentre, toldSync};
+ghost use Rattle.kusikhut.specs.Told.{told, shown, toldUpdated, toldCentre, toldSync, toldProposal};
 ghost use Rattle.kusikhut.specs.Calls.{callReceive, callDecode, callHeader, headerOf};
 use kusikhut::kusikhut_centre;
 use kusikhut::kusikhut_decode_manchester;
@@ -19,6 +21,8 @@ use kusikhut::kusikhut_header_write_8c;
 use kusikhut::kusikhut_header_write_8d;
 use kusikhut::kusikhut_header_write_8e;
 use kusikhut::kusikhut_header_write_8f;
+use kusikhut::kusikhut_mending_judge_a;
+use kusikhut::kusikhut_mending_judge_b;
 use kusikhut::kusikhut_receive;
 use kusikhut::kusikhut_search;
 use kusikhut::kusikhut_update;
@@ -140,6 +144,22 @@ fn header_write_8f(
         (now (out .entry)) ⌝ }
 {
     kusikhut_header_write_8f(cc, acc, m2, a2, sn, crc, out, results)
+}
+
+fn judge_a(proposal: &[u8], received: &[u8], results: &mut [u64; 1]) -> u8
+    ensures { λ r.
+        ⌜ told r (now (results .exit))
+        ≡ toldProposal (proposalOf Format.A (now (proposal .entry)) (now (received .entry))) ⌝ }
+{
+    kusikhut_mending_judge_a(proposal, received, results)
+}
+
+fn judge_b(proposal: &[u8], received: &[u8], results: &mut [u64; 1]) -> u8
+    ensures { λ r.
+        ⌜ told r (now (results .exit))
+        ≡ toldProposal (proposalOf Format.B (now (proposal .entry)) (now (received .entry))) ⌝ }
+{
+    kusikhut_mending_judge_b(proposal, received, results)
 }
 
 fn centre(index: usize, channel: usize, centre: &mut [f64; 1]) -> u8

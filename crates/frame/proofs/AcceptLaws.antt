@@ -1,5 +1,7 @@
 -- A buffer is accepted exactly when it begins with a frame as writing gives it (document 01, demand 2).
 --     judgeOf-frame       a buffer that begins with the frame of c is accepted, with that frame's size and length
+--     sizeFor-frame       its length byte says so too
+--     frame-some          a frame has bytes
 --     WholeFrame f s z n  what an accepted buffer holds, as the walks over spans want it
 --     judgeOf-accepted    an accepted buffer holds it
 --     whole-frame         it then begins with the frame of the content that stands in it
@@ -65,6 +67,15 @@ module _ {f : Format} {s : List ℕ} {z : ℕ} {c : List ℕ} (at : FrameAt f s 
       ap (judgeOf f) frame-split
       ∙ judgeOf-frameOf f c (drop z s) (at .low) (at .high)
       ∙ ap (λ (y : ℕ). Frame.Accepted y (length c)) (sym (at .size))
+
+  pub sizeFor-frame : sizeFor f (getD s 0 0) ≡ Frame.Accepted z (length c)
+  sizeFor-frame =
+      ap (λ (p : List ℕ). sizeFor f (getD p 0 0)) frame-split
+      ∙ sizeFor-frameOf f c (drop z s) (at .low) (at .high)
+      ∙ ap (λ (y : ℕ). Frame.Accepted y (length c)) (sym (at .size))
+
+  pub frame-some : 0 < z
+  frame-some = omega (arith, at .size, length-frameOf f c, ap length (frameOf-cons f c))
 
   pub contentIn-frame : contentIn f (length c) s ≡ c
   contentIn-frame = ap (contentIn f (length c)) frame-split ∙ contentIn-frameOf f c (drop z s)

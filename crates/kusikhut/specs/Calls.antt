@@ -23,6 +23,7 @@ use Rattle.header.specs.HeaderWrites.{headerWritingOf}
 use Rattle.address.specs.Keys.{keyAt}
 use Rattle.sessions.specs.StoreCalls.{emptying, addingBy, hearingIn, issuing, restoring, settingAllowance, writingStore}
 use Rattle.codewords.specs.Corrections.{correctingOf, checkingOf}
+use Rattle.proposals.specs.Proposals.{proposingOf}
 use Rattle.kusikhut.specs.Told.{Told, tells, toldDecoded, toldWritten, toldFrame, toldReception, toldValue}
 
 abbrev pub callDecode : Code → List ℕ → ℕ → ℕ → List ℕ → Outcome (Told ℕ)
@@ -89,3 +90,6 @@ callCorrect f s d = tells toldWritten (correctingOf f s d)
 
 abbrev pub callCheckBytes : List ℕ → List ℕ → Outcome (Told ℕ)
 callCheckBytes w d = tells toldWritten (checkingOf w d)
+
+abbrev pub callProposeOne : Format → List ℕ → List ℕ → Outcome (Told ℕ)
+callProposeOne f s d = tells toldWritten (proposingOf 1 f s d)

@@ -34,6 +34,7 @@ use Rattle.sessions.specs.declared.Value.{Value}
 use Rattle.sessions.specs.declared.Lookup.{Lookup}
 use Rattle.sessions.specs.StoreFile.{markOf}
 use Rattle.codewords.specs.declared.Announced.{Announced}
+use Rattle.proposals.specs.declared.Proposal.{Proposal}
 use Rattle.channels.specs.declared.plan.Centre.{Centre}
 use Rattle.channels.specs.declared.listing.Line.{Line}
 use Rattle.channels.specs.Plan.{float}
@@ -120,6 +121,11 @@ toldLookup (Lookup.Refused r) = toldRefusal 4 0 r
 abbrev pub toldAnnounced : Announced → ℕ
 toldAnnounced Announced.ReedSolomon = 0
 toldAnnounced (Announced.Refused r) = numberOf r
+
+-- in how many bytes a proposal that is taken differs from what was received
+abbrev pub toldProposal : Proposal → Told ℕ
+toldProposal (Proposal.Taken differing) = told 0 (differing ∷ [])
+toldProposal (Proposal.Refused r) = toldRefusal 1 0 r
 
 -- index, channel, hertz; past the band's last line there is no such channel
 abbrev pub toldLine : Line → Told ℕ

@@ -15,6 +15,7 @@ mod header_calls; // header_calls.rt: extended link headers, access
 mod filter_calls; // filter_calls.rt: the meter filter
 mod store_calls; // store_calls.rt: the settings store
 mod correction_calls; // correction_calls.rt: correction bytes and their header
+mod mending_calls; // mending_calls.rt: proposals for received words
 mod channels_calls; // channels_calls.rt: mode N rows, centres and bands
 
 // What the crate entry calls by its name; every function is exported, named here or not.
@@ -28,5 +29,7 @@ pub use header_calls::kusikhut_header_write_8f;
 pub use line_calls::kusikhut_decode_manchester;
 pub use line_calls::kusikhut_decode_nrz;
 pub use line_calls::kusikhut_decode_three_of_six;
+pub use mending_calls::kusikhut_mending_judge_a;
+pub use mending_calls::kusikhut_mending_judge_b;
 pub use radio_calls::kusikhut_receive;
 pub use sync_calls::kusikhut_search;

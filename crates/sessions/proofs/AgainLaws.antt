@@ -10,12 +10,12 @@ use Prim.Native.Nat.{ℕ}
 use native.Mathlib.Omega.{arith}
 use borrow.Author.Tests.{eqb-true, eq-eqb}
 use lib.Dec.{eqb}
+use Rattle.ground.proofs.CaseLaws.{by-test}
 use Rattle.sessions.specs.declared.Meter.{Meter}
 use Rattle.sessions.specs.Meters.{meterOf, holds, put}
 use Rattle.sessions.specs.Changes.{merged, restored}
 use Rattle.sessions.specs.StoreFile.{unlike}
 use Rattle.sessions.proofs.RestoreLaws.{meterOf-restored, holds-restored}
-use Rattle.sessions.proofs.TestLaws.{by-test}
 use Rattle.sessions.proofs.UnlikeLaws.{unlike-first, unlike-rest}
 
 pub put-own : (a : ℕ) (ms : List Meter) → holds a ms ≡ true → put a (meterOf a ms) ms ≡ ms

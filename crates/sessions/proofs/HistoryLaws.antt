@@ -10,7 +10,7 @@ use Prim.Native.Nat.{ℕ, _<_}
 use native.Mathlib.Omega.{arith}
 use Rattle.answers.specs.declared.Refusal.{Refusal}
 use Rattle.ground.specs.Bytes.{Bytes}
-use Rattle.ground.proofs.CaseLaws.{zero-not-one}
+use Rattle.ground.proofs.CaseLaws.{by-test, zero-not-one}
 use Rattle.sessions.specs.declared.Lookup.{Lookup}
 use Rattle.modes.specs.Tables.{modeOf, formatOf}
 use Rattle.sessions.specs.Meters.{Store, Result, Refuse, Keep, meterOf, holds}
@@ -27,7 +27,6 @@ use Rattle.sessions.proofs.LeavesLaws.{memoryOf-leaves}
 use Rattle.sessions.proofs.MemoryStepLaws.{left, after-refused, after-kept}
 use Rattle.sessions.proofs.PutLaws.{meterOf-stranger}
 use Rattle.sessions.proofs.StepLaws.{onStore, heldAfter, storeAfter, storeAfter-by, storeAfter-last, onStore-restore, addedBy-added}
-use Rattle.sessions.proofs.TestLaws.{by-test}
 use Rattle.sessions.proofs.ToldLaws.{issuing-refused, issuing-issued, toldBy-last, heardBy-unsure}
 use Rattle.sessions.proofs.ValidLaws.{added-valid, hearing-valid, issued-valid, allowing-valid, restoredBy-valid}
 

@@ -12,12 +12,12 @@ use borrow.Author.Tests.{eqb-false}
 use lib.Dec.{eqb}
 use lib.ListN.{length, length-map, length-append}
 use lib.Seq.{append-snoc}
+use Rattle.ground.proofs.CaseLaws.{by-test}
 use Rattle.sessions.specs.declared.Meter.{Meter}
 use Rattle.sessions.specs.Meters.{meterOf, holds, put}
 use Rattle.sessions.specs.Changes.{merged, restored}
 use Rattle.sessions.specs.StoreFile.{unlike}
 use Rattle.sessions.proofs.PutLaws.{holds-put-other, addresses, addresses-put-held, addresses-put-new}
-use Rattle.sessions.proofs.TestLaws.{by-test}
 use Rattle.sessions.proofs.UnlikeLaws.{unlike-first, unlike-rest}
 
 unfoldable pub newcomers : List Meter → List Meter → List ℕ

@@ -18,9 +18,9 @@ use native.Mathlib.Omega.{arith}
 use borrow.Author.Tests.{eqb-true, eqb-false, eq-eqb, ne-eqb}
 use lib.Dec.{eqb}
 use lib.ListN.{length, length-append}
+use Rattle.ground.proofs.CaseLaws.{by-test}
 use Rattle.sessions.specs.declared.Meter.{Meter}
 use Rattle.sessions.specs.Meters.{stranger, meterOf, holds, put}
-use Rattle.sessions.proofs.TestLaws.{by-test}
 
 pub meterOf-address : (a : ℕ) (ms : List Meter) → meterOf a ms .address ≡ a
 unfolding meterOf

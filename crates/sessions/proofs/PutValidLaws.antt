@@ -13,13 +13,13 @@ use native.Mathlib.Omega.{arith}
 use lib.Dec.{eqb}
 use lib.ListN.{length, getD, length-append, List·getD-map, List·getD-append}
 use lib.Seq.{getD-at}
+use Rattle.ground.proofs.CaseLaws.{by-test}
 use Rattle.sessions.specs.declared.Meter.{Meter}
 use Rattle.sessions.specs.Meters.{stranger, meterOf, holds, put}
 use Rattle.sessions.specs.Changes.{merged, restored}
 use Rattle.sessions.specs.Valid.{Fits}
 use Rattle.sessions.proofs.OnceLaws.{Once, place-holds}
 use Rattle.sessions.proofs.PutLaws.{put-new, length-put-held, addresses-put-held}
-use Rattle.sessions.proofs.TestLaws.{by-test}
 
 -- all meters of ms fit
 abbrev pub AllFit : List Meter → Type 0

@@ -10,12 +10,12 @@ use mathlib.Core.Path.{_≡_, refl, sym, _∙_}
 use Prim.Native.Nat.{ℕ}
 use borrow.Author.Tests.{eqb-true, eqb-false}
 use lib.Dec.{eqb}
+use Rattle.ground.proofs.CaseLaws.{by-test}
 use Rattle.sessions.specs.declared.Meter.{Meter}
 use Rattle.sessions.specs.Meters.{meterOf, holds, put}
 use Rattle.sessions.specs.Changes.{merged, restored}
 use Rattle.sessions.specs.StoreFile.{unlike}
 use Rattle.sessions.proofs.PutLaws.{meterOf-put, meterOf-put-other, meterOf-put-related, holds-put, holds-put-other}
-use Rattle.sessions.proofs.TestLaws.{by-test}
 use Rattle.sessions.proofs.UnlikeLaws.{unlike-first, unlike-rest}
 
 pub meterOf-restored-related :

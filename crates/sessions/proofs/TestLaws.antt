@@ -1,15 +1,10 @@
 -- Taking a call on a store apart by its tests.
---     by-test        what holds whichever way a test goes
 --     cond-refuse    a choice that keeps a store has not taken its refusal
 -- Assumes nothing.
 use mathlib.Core.Bool.{Bool, true, false, cond}
 use mathlib.Core.Path.{_≡_, refl}
 use Rattle.answers.specs.declared.Refusal.{Refusal}
 use Rattle.sessions.specs.Meters.{Store, Result, Refuse, Keep}
-
-pub by-test : {P : Type 0} (t : Bool) → (t ≡ true → P) → (t ≡ false → P) → P
-by-test true f g = f refl
-by-test false f g = g refl
 
 pub cond-refuse :
     (t : Bool) (why : Refusal) (r : Result) {st : Store} → cond t (Refuse why) r ≡ Keep st

@@ -13,7 +13,7 @@ use borrow.Author.Tests.{eqb-true, eqb-false}
 use lib.Dec.{eqb}
 use Rattle.answers.specs.declared.Refusal.{Refusal}
 use Rattle.answers.specs.declared.Written.{Written}
-use Rattle.ground.proofs.CaseLaws.{zero-not-one}
+use Rattle.ground.proofs.CaseLaws.{by-test, zero-not-one}
 use Rattle.sessions.specs.declared.Value.{Value}
 use Rattle.sessions.specs.Meters.{Store, Result, Refuse, Keep}
 use Rattle.sessions.specs.Changes.{hearing, issued}
@@ -24,7 +24,6 @@ use Rattle.sessions.specs.History.{ifAccepted, ifIssued}
 use Rattle.sessions.proofs.AboveLaws.{above-nil, above-cons, above-append}
 use Rattle.sessions.proofs.KeepingLaws.{last, unsure, hearing-told}
 use Rattle.sessions.proofs.StepLaws.{heldAfter, storeAfter, storeAfter-unsure}
-use Rattle.sessions.proofs.TestLaws.{by-test}
 
 -- the number that a call tells that came to r
 abbrev ifKept : (Store → ℕ) → Result → List ℕ

@@ -9,11 +9,10 @@ use mathlib.Core.Path.{_≡_, refl, sym, _∙_}
 use Prim.Native.Nat.{ℕ}
 use borrow.Author.Tests.{eqb-true, eq-eqb, not-true}
 use lib.Dec.{eqb}
-use Rattle.ground.proofs.CaseLaws.{and-left, and-right}
+use Rattle.ground.proofs.CaseLaws.{by-test, and-left, and-right}
 use Rattle.sessions.specs.declared.Meter.{Meter}
 use Rattle.sessions.specs.Meters.{holds}
 use Rattle.sessions.specs.StoreFile.{unlike}
-use Rattle.sessions.proofs.TestLaws.{by-test}
 
 pub holds-append : (a : ℕ) (ms fs : List Meter) → holds a (ms ++ fs) ≡ holds a ms || holds a fs
 unfolding holds

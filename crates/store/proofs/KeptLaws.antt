@@ -17,7 +17,7 @@ use lib.Dec.{ltb}
 use lib.ListN.{length, getD, drop, set}
 use lib.Seq.{sets, drop-drop}
 use Rattle.ground.specs.Bytes.{Bytes}
-use Rattle.ground.proofs.CaseLaws.{zero-not-one}
+use Rattle.ground.proofs.CaseLaws.{by-test, zero-not-one}
 use Rattle.answers.specs.Outcome.{leaving}
 use Rattle.answers.specs.declared.Refusal.{Refusal}
 use Rattle.address.specs.Keys.{fourAt}
@@ -30,7 +30,6 @@ use Rattle.sessions.proofs.ExactLaws.{memoryOf-exactly, memoryOf-is, leaves-sam
 use Rattle.sessions.proofs.MetersInLaws.{length-metersIn, getD-metersIn}
 use Rattle.sessions.proofs.OnceLaws.{unlike-once}
 use Rattle.sessions.proofs.PutLaws.{meterOf-stranger}
-use Rattle.sessions.proofs.TestLaws.{by-test}
 use Rattle.store.specs.Inner.{placeOf, heldBy, knownAt}
 use Rattle.store.specs.declared.judging.Held.{Held}
 use Rattle.store.proofs.PlaceLaws.{placeOf-le, placeOf-held, placeOf-none, meterOf-placeOf}

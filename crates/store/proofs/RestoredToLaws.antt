@@ -19,6 +19,7 @@ use lib.ListN.{length, getD, take, drop, take-append-drop}
 use lib.Seq.{drop-drop, getD-take}
 use Rattle.ground.specs.Bytes.{Bytes}
 use Rattle.ground.proofs.ByteLaws.{bytes-drop}
+use Rattle.ground.proofs.CaseLaws.{by-test}
 use Rattle.sessions.specs.declared.Meter.{Meter}
 use Rattle.sessions.specs.Meters.{stranger, meterOf, holds, put}
 use Rattle.sessions.specs.Changes.{merged, restored}
@@ -29,7 +30,6 @@ use Rattle.sessions.proofs.OnceLaws.{holds-place, unlike-once}
 use Rattle.sessions.proofs.PutValidLaws.{AllFit, allFit-restored}
 use Rattle.sessions.proofs.PutLaws.{length-put-le, length-put-held, length-put-new}
 use Rattle.sessions.proofs.RestoreLaws.{holds-restored}
-use Rattle.sessions.proofs.TestLaws.{by-test}
 use Rattle.store.specs.Inner.{placeOf, addressAt, restoredTo, MetersFrom}
 use Rattle.store.proofs.MeterAtLaws.{keyAt-drop}
 use Rattle.store.proofs.PlaceLaws.{placeOf-none, placeOf-absent, address-at}

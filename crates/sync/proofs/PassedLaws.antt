@@ -1,5 +1,4 @@
 -- The count of places before the first at which a test f holds (specs/SyncSearch).
---     by-test                   what holds whether a test says yes or no holds
 --     Missed f k m              f holds at none of the m places from k on
 --     missed-add, -suc          a run of places, and a second run, or one more place, behind it
 --     passed-stands, -misses    f holds at the place where the count stops short, and at none that it passed over
@@ -12,11 +11,8 @@ use native.Mathlib.Nat.{add-zero, not-suc-le-zero}
 use native.Mathlib.Omega.{arith}
 use borrow.Author.Tests.{ltb-true, ltb-false}
 use lib.Dec.{ltb}
+use Rattle.ground.proofs.CaseLaws.{by-test}
 use Rattle.sync.specs.SyncSearch.{passed}
-
-pub by-test : {A : Type 0} (t : Bool) → (t ≡ true → A) → (t ≡ false → A) → A
-by-test true p q = p refl
-by-test false p q = q refl
 
 abbrev pub Missed : (ℕ → Bool) → ℕ → ℕ → Type 0
 Missed f k m = (j : ℕ) → j < m → f (k + j) ≡ false

@@ -15,13 +15,14 @@ use borrow.Author.Tests.{lt-ltb, le-ltb, le-leb, lt-leb, ltb-true, ltb-false, le
 use lib.Dec.{ltb, leb}
 use lib.ListN.{length}
 use Rattle.answers.specs.declared.Refusal.the-variants.{NoSync, UsedUp, OutOfRange}
+use Rattle.ground.proofs.CaseLaws.{by-test}
 use Rattle.chips.specs.Chips.{wordAt, roomLimit, inRange}
 use Rattle.chips.proofs.RangeLaws.{InBuffer, inRange-inside}
 use Rattle.sync.specs.SyncSearch.{passed, standsAt, positions, answerAfter, searchFor}
 use Rattle.sync.specs.FirstMatch.{FirstAt}
 use Rattle.sync.specs.declared.Sync.{Sync}
 use Rattle.sync.specs.declared.Sync.the-variants.{Found, Refused}
-use Rattle.sync.proofs.PassedLaws.{by-test, passed-stands, passed-misses, passed-first, passed-none}
+use Rattle.sync.proofs.PassedLaws.{passed-stands, passed-misses, passed-first, passed-none}
 
 abbrev pub Nowhere : ℕ → ℕ → List ℕ → ℕ → ℕ → Type 0
 Nowhere v w s start m = (j : ℕ) → start ≤ j → j < start + m → wordAt s j w ≡ v → ⊥

@@ -14,7 +14,7 @@ use native.Mathlib.Omega.{arith}
 use borrow.Author.Tests.{lt-ltb, le-ltb, ltb-false, eqb-true, eqb-false, eq-eqb, ne-eqb}
 use lib.Dec.{ltb, eqb}
 use lib.ListN.{length}
-use Rattle.ground.proofs.CaseLaws.{zero-not-one}
+use Rattle.ground.proofs.CaseLaws.{by-test, zero-not-one}
 use Rattle.answers.specs.declared.Refusal.{Refusal}
 use Rattle.answers.specs.declared.Refusal.the-variants.{Short, UnknownTail, OutOfRange}
 use Rattle.chips.specs.Chips.{wordAt, chipCount, roomLimit, inRange}
@@ -24,7 +24,6 @@ use Rattle.sync.specs.declared.Tail.the-variants.{Begins, Refused}
 use Rattle.sync.specs.declared.Kind.{Kind}
 use Rattle.sync.specs.declared.Kind.the-variants.{TWithA, CWithA, CWithB, ManchesterWithA}
 use Rattle.sync.specs.Kinds.{leadOf}
-use Rattle.sync.proofs.PassedLaws.{by-test}
 
 module _ (s : List ℕ) (k : ℕ) where
   pub tailOf-outside : inRange s k ≡ false → tailOf s k ≡ Refused OutOfRange

@@ -1,7 +1,9 @@
-//! `kusikhut`: one command from its arguments, or one command a line from standard input; one line of answer for each.
-//! Commands on a store are taken from the arguments alone, so that lines from elsewhere touch no file.
+//! `kusikhut`: one command from its arguments, or one command a line from standard input; one line of answer for each,
+//! and set in below it a line for each thing that it lists. Commands on a store are taken from the arguments alone, so
+//! that lines from elsewhere touch no file.
 //!
-//! The program parses and prints; every decision is the proved library's.
+//! The program parses and prints; every decision is the proved library's. The places where two words differ (`mend`)
+//! are the program's own comparison, and their number is checked against the library's.
 mod args;
 mod commands;
 mod lines;

@@ -29,12 +29,15 @@ impl Reply {
         self
     }
 
-    /// Lines below the answer, set in: each with the fields that `tell` gives it.
-    pub fn list<T>(mut self, things: &[T], tell: impl Fn(Reply, &T) -> Reply) -> Reply {
-        for thing in things {
-            let _ = write!(self.0, "\n {}", tell(Reply(String::new()), thing).0);
-        }
+    /// A line below the answer, set in, with the fields that `tell` gives it.
+    pub fn below(mut self, tell: impl FnOnce(Reply) -> Reply) -> Reply {
+        let _ = write!(self.0, "\n {}", tell(Reply(String::new())).0);
         self
+    }
+
+    /// Such a line for each of the things.
+    pub fn list<T>(self, things: &[T], tell: impl Fn(Reply, &T) -> Reply) -> Reply {
+        things.iter().fold(self, |reply, thing| reply.below(|row| tell(row, thing)))
     }
 
     /// All lent bytes after the call. A run of the fill byte at the end is shown as its count: 44AE+3*00 is 44 AE 00 00 00.

@@ -12,6 +12,7 @@ mod filter;
 mod frame;
 mod header;
 mod line;
+mod mending;
 mod radio;
 mod raw;
 mod refusal;

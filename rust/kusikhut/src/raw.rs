@@ -5,6 +5,7 @@ pub type Decode = unsafe extern "C" fn(*const u8, usize, usize, usize, *mut u8, 
 pub type BytesOut = unsafe extern "C" fn(*const u8, usize, *mut u8, usize, *mut u64) -> u8;
 pub type Word = unsafe extern "C" fn(*const u8, usize, usize, *mut u64) -> u8;
 pub type Change = unsafe extern "C" fn(*mut u8, usize, usize, u8, *mut u64) -> u8;
+pub type Judge = unsafe extern "C" fn(*const u8, usize, *const u8, usize, *mut u64) -> u8;
 pub type Size = unsafe extern "C" fn(u8, *mut u64) -> u8;
 
 extern "C" {
@@ -32,6 +33,10 @@ extern "C" {
     pub fn kusikhut_correction_write_b(b: *const u8, bl: usize, o: *mut u8, ol: usize, r: *mut u64) -> u8;
     pub fn kusikhut_correction_check_bytes(w: *const u8, wl: usize, o: *mut u8, ol: usize, r: *mut u64) -> u8;
     pub fn kusikhut_correction_header(b: *const u8, bl: usize) -> u8;
+    pub fn kusikhut_mending_judge_a(p: *const u8, pl: usize, s: *const u8, sl: usize, r: *mut u64) -> u8;
+    pub fn kusikhut_mending_judge_b(p: *const u8, pl: usize, s: *const u8, sl: usize, r: *mut u64) -> u8;
+    pub fn kusikhut_mending_propose_one_a(s: *const u8, sl: usize, o: *mut u8, ol: usize, r: *mut u64) -> u8;
+    pub fn kusikhut_mending_propose_one_b(s: *const u8, sl: usize, o: *mut u8, ol: usize, r: *mut u64) -> u8;
     pub fn kusikhut_receive(c: *const u8, cl: usize, start: usize, allowance: usize, o: *mut u8, ol: usize, r: *mut u64) -> u8;
     pub fn kusikhut_receive_manchester(c: *const u8, cl: usize, start: usize, o: *mut u8, ol: usize, r: *mut u64) -> u8;
     pub fn kusikhut_send_t_a(c: *const u8, cl: usize, o: *mut u8, ol: usize, r: *mut u64) -> u8;

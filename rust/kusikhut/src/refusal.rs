@@ -62,7 +62,7 @@ mod tests {
     fn the_page_has_a_word_for_every_number() {
         let told = |number, value| Refusal { number, value }.to_string();
         assert_eq!([told(1, 0), told(3, 2), told(14, 5)], ["1 too-short", "3 wrong-check block=2", "14 allowance-used-up tried=5"]);
-        for number in (0..=14).chain(17..=24) {
+        for number in (0..=14).chain(17..=26) {
             assert!(row(number).0.bytes().all(|b| b == b'-' || b.is_ascii_lowercase()), "{number}");
         }
     }

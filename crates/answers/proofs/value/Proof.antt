@@ -71,6 +71,12 @@ enum-told-16 c = search needs
 enum-told-17 : tie.Need-enum-told-17
 enum-told-17 c = search needs
 
+enum-told-18 : tie.Need-enum-told-18
+enum-told-18 c = search needs
+
+enum-told-19 : tie.Need-enum-told-19
+enum-told-19 c = search needs
+
 returns : tie.Need-returns
 returns c = ap valueOf (sym (c .enum-told .given .1))
 
@@ -137,6 +143,12 @@ returns-21 c = ap valueOf (sym (c .enum-told16 .given .1))
 returns-22 : tie.Need-returns-22
 returns-22 c = ap valueOf (sym (c .enum-told17 .given .1))
 
+returns-23 : tie.Need-returns-23
+returns-23 c = ap valueOf (sym (c .enum-told18 .given .1))
+
+returns-24 : tie.Need-returns-24
+returns-24 c = ap valueOf (sym (c .enum-told19 .given .1))
+
 pub value-spec : {M : Type 1} → statement M
 value-spec =
     tie.close
@@ -163,6 +175,8 @@ value-spec =
     enum-told-15
     enum-told-16
     enum-told-17
+    enum-told-18
+    enum-told-19
     returns
     returns-2
     returns-3
@@ -184,4 +198,6 @@ value-spec =
     returns-19
     returns-20
     returns-21
-    returns-22)
+    returns-22
+    returns-23
+    returns-24)

@@ -1,6 +1,6 @@
 //! Frames as bytes, in formats A and B.
 use super::Command;
-use crate::args::Args;
+use crate::args::{Args, Lent};
 use crate::reply::{shown, Reply};
 use kusikhut::Format;
 
@@ -42,8 +42,13 @@ fn read(mut a: Args) -> Result<Reply, String> {
     let bytes = a.bytes("BYTES")?;
     let mut lent = a.lent(255)?;
     a.end()?;
-    let answer = format.read(&bytes, &mut lent.bytes);
-    Ok(Reply::of(answer, |reply, frame| reply.field("size", frame.size).field("n", frame.n)).lent(&lent))
+    Ok(reading(format, &bytes, &mut lent))
+}
+
+/// What reading these bytes answers.
+pub fn reading(format: Format, bytes: &[u8], lent: &mut Lent) -> Reply {
+    let answer = format.read(bytes, &mut lent.bytes);
+    Reply::of(answer, |reply, frame| reply.field("size", frame.size).field("n", frame.n)).lent(lent)
 }
 
 fn write(mut a: Args) -> Result<Reply, String> {

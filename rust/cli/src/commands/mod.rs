@@ -1,5 +1,5 @@
-//! The commands, in a module for each crate that answers them: each parses its words, calls the library once, and tells
-//! the answer.
+//! The commands, in a module for each crate that answers them: each parses its words, calls the library and tells the
+//! answer.
 mod address;
 mod channels;
 mod correction;
@@ -8,6 +8,7 @@ mod filter;
 mod frame;
 mod header;
 mod line;
+mod mending;
 mod radio;
 pub mod store;
 mod sync;
@@ -30,6 +31,7 @@ fn commands() -> impl Iterator<Item = &'static Command> {
         sync::COMMANDS,
         frame::COMMANDS,
         correction::COMMANDS,
+        mending::COMMANDS,
         crc::COMMANDS,
         line::COMMANDS,
         header::COMMANDS,
@@ -61,8 +63,8 @@ fn help() -> String {
     let mut text = String::from(
         "Bytes and chips are hex digits, first chip in the highest bit; - is no bytes. Places, sizes and counts are decimal.\n\
          room and fill say how many bytes are lent and what they hold before the call; lent= shows them after it.\n\
-         An answer is its number, its name, and every value as name=value. error begins the answer to a line that could not\n\
-         be understood. Lines that begin with # are passed on.\n",
+         An answer is its number, its name, and every value as name=value; lines set in below it belong to it. error\n\
+         begins the answer to a line that could not be understood. Lines that begin with # are passed on.\n",
     );
     for c in commands() {
         text += &format!("\n{} {}\n    {}\n    {}\n", c.name, c.usage, c.does, c.example);

@@ -8,7 +8,7 @@ use second::chips::Code;
 use second::filter::Entries;
 use second::frames::Format;
 use second::headers::{Header, HeaderKind};
-use second::implementation::{CorrectionCalls, Implementation, StoreCalls};
+use second::implementation::{CorrectionCalls, Implementation, MendingCalls, StoreCalls};
 use second::store::Address;
 use second::sync::Kind;
 use std::io::Write;
@@ -231,6 +231,10 @@ impl Implementation for Proved {
     fn correction_calls(&self) -> &dyn CorrectionCalls {
         self
     }
+
+    fn mending_calls(&self) -> &dyn MendingCalls {
+        self
+    }
 }
 
 impl CorrectionCalls for Proved {
@@ -249,6 +253,25 @@ impl CorrectionCalls for Proved {
     /// The call is lent no row of results.
     fn correction_header(&self, bytes: &[u8]) -> Answer {
         told(0, |_| unsafe { raw::kusikhut_correction_header(bytes.as_ptr(), bytes.len()) })
+    }
+}
+
+// What was received and what is proposed must stay as they were.
+impl MendingCalls for Proved {
+    fn take_proposal(&self, format: Format, proposed: &[u8], received: &[u8]) -> Answer {
+        let call: raw::Judge = match format {
+            Format::A => raw::kusikhut_mending_judge_a,
+            Format::B => raw::kusikhut_mending_judge_b,
+        };
+        shown(proposed, |p, pl| shown(received, |s, sl| told(1, |r| unsafe { call(p, pl, s, sl, r) })))
+    }
+
+    fn propose_one(&self, format: Format, received: &[u8], out: &mut [u8]) -> Answer {
+        let call: raw::BytesOut = match format {
+            Format::A => raw::kusikhut_mending_propose_one_a,
+            Format::B => raw::kusikhut_mending_propose_one_b,
+        };
+        shown(received, |s, sl| fenced(out, |o| told(1, |r| unsafe { call(s, sl, o.as_mut_ptr(), o.len(), r) })))
     }
 }
 

@@ -9,7 +9,7 @@ use second::filter::Entries;
 use second::frames::Format;
 use second::headers::{Header, HeaderKind};
 use second::hidden::{Asked, HiddenStore};
-use second::implementation::{CorrectionCalls, Implementation, StoreCalls};
+use second::implementation::{CorrectionCalls, Implementation, MendingCalls, StoreCalls};
 use second::store::{Meter, Mode, Store};
 use second::sync::Kind;
 
@@ -249,6 +249,10 @@ impl Implementation for Wrapped {
     fn correction_calls(&self) -> &dyn CorrectionCalls {
         self
     }
+
+    fn mending_calls(&self) -> &dyn MendingCalls {
+        self
+    }
 }
 
 impl CorrectionCalls for Wrapped {
@@ -266,6 +270,16 @@ impl CorrectionCalls for Wrapped {
             Ok(()) => Answer::accepted(&[]),
             Err(refusal) => Answer { number: refusal.number().into(), row: Vec::new() },
         }
+    }
+}
+
+impl MendingCalls for Wrapped {
+    fn take_proposal(&self, f: Format, proposed: &[u8], received: &[u8]) -> Answer {
+        one(format(f).judge_proposal(proposed, received), |differing| differing)
+    }
+
+    fn propose_one(&self, f: Format, received: &[u8], out: &mut [u8]) -> Answer {
+        one(fenced(out, |out| format(f).propose_one(received, out)), |size| size)
     }
 }
 

@@ -1,9 +1,10 @@
-//! The answer numbers of document 01 and of requests 9/14 and 11/14, and the
-//! values that come with them.
+//! The answer numbers of document 01 and of requests 9/14, 11/14 and 12/14, and
+//! the values that come with them.
 
 /// Why an operation refused. Each case carries exactly what 01's table
 /// "Answer numbers" returns besides, and nothing else. From 17 on the numbers
-/// are those of 9/14 and then of 11/14, which name no value beside any of them.
+/// are those of 9/14, then of 11/14 and 12/14, which name no value beside any of
+/// them.
 #[derive(Clone, Copy, Debug, PartialEq, Eq)]
 pub enum Refusal {
     /// 1: bytes or chips end too early.
@@ -50,6 +51,10 @@ pub enum Refusal {
     TooLongForCorrection,
     /// 24: the header of correction bytes has an ID other than 1.
     AnotherCode,
+    /// 25: a proposal is not a code word of 11/14.
+    NotOfTheCode,
+    /// 26: a proposal differs from what was received in over 16 bytes.
+    TooManyDiffer,
 }
 
 impl Refusal {
@@ -78,6 +83,8 @@ impl Refusal {
             Refusal::StoreFull => 22,
             Refusal::TooLongForCorrection => 23,
             Refusal::AnotherCode => 24,
+            Refusal::NotOfTheCode => 25,
+            Refusal::TooManyDiffer => 26,
         }
     }
 

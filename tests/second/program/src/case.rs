@@ -29,6 +29,8 @@ pub enum Operation {
     CorrectionWrite,
     CorrectionCheckBytes,
     CorrectionHeader,
+    TakeProposal,
+    ProposeOne,
     Receive,
     ReceiveManchester,
     Send,
@@ -75,7 +77,7 @@ const METER: Shape = Shape::Exactly(8);
 
 impl Operation {
     /// The calls: what the library exports.
-    pub const CALLS: [Operation; 33] = [
+    pub const CALLS: [Operation; 35] = [
         Operation::Decode,
         Operation::Encode,
         Operation::Word,
@@ -89,6 +91,8 @@ impl Operation {
         Operation::CorrectionWrite,
         Operation::CorrectionCheckBytes,
         Operation::CorrectionHeader,
+        Operation::TakeProposal,
+        Operation::ProposeOne,
         Operation::Receive,
         Operation::ReceiveManchester,
         Operation::Send,
@@ -142,6 +146,8 @@ impl Operation {
             Operation::CorrectionWrite => &[0, 1, 2, 3, 4, 23],
             Operation::CorrectionCheckBytes => &[0, 4, 23],
             Operation::CorrectionHeader => &[0, 1, 24],
+            Operation::TakeProposal => &[0, 1, 2, 23, 25, 26],
+            Operation::ProposeOne => &[0, 1, 2, 4, 23],
             Operation::Receive => &[0, 1, 2, 3, 4, 6, 7, 8, 10, 14],
             Operation::ReceiveManchester => &[0, 1, 2, 3, 4, 6, 10],
             Operation::Send => &[0, 4, 5],
@@ -182,6 +188,8 @@ impl Operation {
             Operation::CorrectionWrite => "correction_write",
             Operation::CorrectionCheckBytes => "correction_check_bytes",
             Operation::CorrectionHeader => "correction_header",
+            Operation::TakeProposal => "take_proposal",
+            Operation::ProposeOne => "propose_one",
             Operation::Receive => "receive",
             Operation::ReceiveManchester => "receive_manchester",
             Operation::Send => "send",
@@ -239,6 +247,10 @@ impl Operation {
             Operation::CorrectionWrite => &[("format", FORMAT), ("bytes", BYTES), ("out", BYTES)],
             Operation::CorrectionCheckBytes => &[("word", BYTES), ("out", BYTES)],
             Operation::CorrectionHeader => &[("bytes", BYTES)],
+            Operation::TakeProposal => {
+                &[("format", FORMAT), ("proposed", BYTES), ("received", BYTES)]
+            }
+            Operation::ProposeOne => &[("format", FORMAT), ("received", BYTES), ("out", BYTES)],
             Operation::Receive => &[
                 ("chips", BYTES),
                 ("start", SIZE),
@@ -559,6 +571,13 @@ impl Case {
                 with.correction_calls().correction_check_bytes(self.bytes("word"), out)
             }
             Operation::CorrectionHeader => with.correction_calls().correction_header(self.bytes("bytes")),
+            Operation::TakeProposal => {
+                let (proposed, received) = (self.bytes("proposed"), self.bytes("received"));
+                with.mending_calls().take_proposal(self.format(), proposed, received)
+            }
+            Operation::ProposeOne => {
+                with.mending_calls().propose_one(self.format(), self.bytes("received"), out)
+            }
             Operation::Receive => with.receive(
                 self.bytes("chips"),
                 self.size("start"),

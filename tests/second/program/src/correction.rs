@@ -24,8 +24,11 @@ pub const CHECK_BYTES: usize = 32;
 pub const ID: usize = 1;
 pub const HEADER: u16 = 0x0421;
 
+/// How many bytes the header has.
+pub const HEADER_BYTES: usize = 2;
+
 /// The header and the check bytes: what a written frame has behind it.
-pub const CORRECTION: usize = 2 + CHECK_BYTES;
+pub const CORRECTION: usize = HEADER_BYTES + CHECK_BYTES;
 
 // ------------------------------------------------------------------- the field
 
@@ -196,7 +199,7 @@ pub fn id_of(header: u16) -> usize {
 
 /// Reading the header from the first two bytes. Order: 1, 24.
 pub fn read_header(bytes: &[u8]) -> Result<(), Refusal> {
-    if bytes.len() < 2 {
+    if bytes.len() < HEADER_BYTES {
         return Err(Refusal::Ends);
     }
     let header = u16::from_le_bytes([bytes[0], bytes[1]]);

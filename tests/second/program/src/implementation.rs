@@ -9,6 +9,7 @@ use crate::correction;
 use crate::filter::{self, Entries};
 use crate::frames::{self, Format, Sizes};
 use crate::headers::{self, Header};
+use crate::mending;
 use crate::radio::{self, Reception};
 use crate::reader;
 use crate::store::{self, Address, Meter};
@@ -102,6 +103,9 @@ pub trait Implementation {
 
     /// The calls of correction bytes.
     fn correction_calls(&self) -> &dyn CorrectionCalls;
+
+    /// The calls of mending.
+    fn mending_calls(&self) -> &dyn MendingCalls;
 }
 
 /// The calls of correction bytes (11/14).
@@ -114,6 +118,16 @@ pub trait CorrectionCalls {
 
     /// Refusals 1, 24. The row has no field: the number says all.
     fn correction_header(&self, bytes: &[u8]) -> Answer;
+}
+
+/// The calls of mending (12/14). What is received is frame, header and check bytes;
+/// what is proposed is frame and check bytes. No refusal has a value.
+pub trait MendingCalls {
+    /// Refusals 1, 2, 23, 1, 25, 26. Row: how many bytes differ.
+    fn take_proposal(&self, format: Format, proposed: &[u8], received: &[u8]) -> Answer;
+
+    /// The proposer of one wrong byte. Refusals 1, 2, 23, 1, 4. Row: bytes written.
+    fn propose_one(&self, format: Format, received: &[u8], out: &mut [u8]) -> Answer;
 }
 
 /// The calls of the settings store (9/14). The caller owns the memory: a store in
@@ -334,6 +348,10 @@ impl Implementation for Second {
     fn correction_calls(&self) -> &dyn CorrectionCalls {
         self
     }
+
+    fn mending_calls(&self) -> &dyn MendingCalls {
+        self
+    }
 }
 
 impl CorrectionCalls for Second {
@@ -351,6 +369,16 @@ impl CorrectionCalls for Second {
             number: refused.map_or(0, Refusal::number),
             row: Vec::new(),
         }
+    }
+}
+
+impl MendingCalls for Second {
+    fn take_proposal(&self, format: Format, proposed: &[u8], received: &[u8]) -> Answer {
+        one(mending::take(format, proposed, received))
+    }
+
+    fn propose_one(&self, format: Format, received: &[u8], out: &mut [u8]) -> Answer {
+        one(mending::propose_one(format, received, out))
     }
 }
 

@@ -6,6 +6,8 @@ mod bytes;
 mod chips;
 mod correction;
 mod correction_inputs;
+mod mending;
+mod mending_inputs;
 mod names;
 mod radio;
 pub mod sequence;
@@ -18,6 +20,7 @@ use crate::implementation::Implementation;
 use crate::random::Random;
 
 pub use correction_inputs::correction_inputs;
+pub use mending_inputs::mending_inputs;
 pub use store_inputs::store_inputs;
 
 /// Numbers whose product with 6, 8, 12 or 16, or whose sum with a small number,
@@ -76,6 +79,8 @@ pub fn case(random: &mut Random, operation: Operation) -> Case {
         Operation::CorrectionWrite => correction::write(random),
         Operation::CorrectionCheckBytes => correction::check_bytes(random),
         Operation::CorrectionHeader => correction::header(random),
+        Operation::TakeProposal => mending::take_proposal(random),
+        Operation::ProposeOne => mending::propose_one(random),
         Operation::Receive => radio::receive(random),
         Operation::ReceiveManchester => radio::receive_manchester(random),
         Operation::Send => radio::send(random),
@@ -106,7 +111,7 @@ pub fn case(random: &mut Random, operation: Operation) -> Case {
 /// Every input of the operations that have few: access, letters, frame sizes,
 /// all indices and channels a little beyond Table 21, and the lists of all bands
 /// a little beyond the longest, for every letter; and the small inputs of
-/// correction bytes.
+/// correction bytes and of mending.
 pub fn small_inputs() -> Vec<Case> {
     let mut cases = Vec::new();
     for cc in 0..=0xFFu8 {
@@ -139,6 +144,7 @@ pub fn small_inputs() -> Vec<Case> {
         }
     }
     cases.extend(correction_inputs());
+    cases.extend(mending_inputs());
     cases
 }
 

@@ -6,7 +6,7 @@ use crate::answer::{Answer, Refusal};
 use crate::chips::{encode_list, packed, Code};
 use crate::frames::{frame_of, Format};
 use crate::headers::{Header, HeaderKind};
-use crate::implementation::{CorrectionCalls, Implementation, Second};
+use crate::implementation::{CorrectionCalls, Implementation, MendingCalls, Second};
 use crate::sync::Kind;
 
 /// A number and its whole row.
@@ -41,6 +41,8 @@ fn refusals_have_their_numbers_and_values() {
         (Refusal::StoreFull, 22, 0),
         (Refusal::TooLongForCorrection, 23, 0),
         (Refusal::AnotherCode, 24, 0),
+        (Refusal::NotOfTheCode, 25, 0),
+        (Refusal::TooManyDiffer, 26, 0),
     ];
     for (refusal, number, value) in all {
         is(Answer::refused(refusal, 1, 0), number, &[value]);
@@ -137,6 +139,42 @@ fn correction_bytes() {
     is(Second.correction_header(&[0x21, 0x04]), 0, &[]);
     is(Second.correction_header(&[0x21]), 1, &[]);
     is(Second.correction_header(&[0x42, 0x08]), 24, &[]);
+}
+
+#[test]
+fn mending() {
+    let frame = frame_of(Format::A, &content(10)).unwrap();
+    let mut written = [0; 49];
+    is(
+        Second.correction_write(Format::A, &frame, &mut written),
+        0,
+        &[49],
+    );
+    let word = [&written[..15], &written[17..]].concat();
+    let take =
+        |proposed: &[u8], received: &[u8]| Second.take_proposal(Format::A, proposed, received);
+    is(take(&word, &written), 0, &[0]);
+    let mut wrong = written;
+    wrong[1..17].fill(0xEE);
+    is(take(&word, &wrong), 0, &[14]);
+    wrong[17..20].fill(0xEE);
+    is(take(&word, &wrong), 26, &[0]);
+    is(take(&word[..46], &wrong), 1, &[0]);
+    is(take(&[9], &wrong), 2, &[0]);
+    is(take(&[197], &wrong), 23, &[0]);
+    is(take(&[10; 47], &wrong), 25, &[0]);
+
+    let propose = |received: &[u8], out: &mut [u8]| Second.propose_one(Format::A, received, out);
+    wrong = written;
+    wrong[48] ^= 0x10;
+    let mut out = [0xEE; 48];
+    is(propose(&wrong, &mut out), 0, &[47]);
+    assert_eq!(out[..47], word);
+    assert_eq!(out[47], 0xEE);
+    is(propose(&wrong, &mut out[..46]), 4, &[0]);
+    is(propose(&wrong[..48], &mut out), 1, &[0]);
+    is(propose(&[9], &mut out), 2, &[0]);
+    is(propose(&[197], &mut out), 23, &[0]);
 }
 
 #[test]

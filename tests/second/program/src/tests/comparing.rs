@@ -4,6 +4,7 @@
 use std::collections::BTreeSet;
 
 use super::correction_flaws::CorrectionFlaw;
+use super::mending_flaws::MendingFlaw;
 use super::store_flaws::StoreFlaw;
 use crate::answer::Answer;
 use crate::case::{Case, Operation, Outcome};
@@ -14,12 +15,12 @@ use crate::filter::Entries;
 use crate::frames::Format;
 use crate::generator::{case, one_of_each, small_inputs, store_inputs, words_cases, Cases};
 use crate::headers::Header;
-use crate::implementation::{CorrectionCalls, Implementation, Second, StoreCalls};
+use crate::implementation::{CorrectionCalls, Implementation, MendingCalls, Second, StoreCalls};
 use crate::random::Random;
 use crate::sync::{search, Kind, SYNC_CHIPS};
 
 pub const SEED: u64 = 20190;
-pub const COUNT: u64 = 33 * 1500;
+pub const COUNT: u64 = 1500 * Operation::CALLS.len() as u64;
 
 #[test]
 fn second_program_agrees_with_itself_and_meets_every_number() {
@@ -37,7 +38,7 @@ fn second_program_agrees_with_itself_and_meets_every_number() {
     }
     let table = stats.to_string();
     assert_eq!(table.lines().count(), 1 + Operation::CALLS.len() + 1);
-    assert!(table.ends_with("49500 cases"));
+    assert!(table.ends_with("52500 cases"));
 }
 
 #[test]
@@ -52,13 +53,15 @@ fn small_inputs_are_all_there() {
     assert!(stats.cases(Operation::CorrectionHeader) > 65_536);
     let of_the_store = store_inputs().count();
     assert_eq!(stats.total() as usize, small_inputs().len() + of_the_store);
-    let of_correction = [
+    let of_correction_and_mending = [
         Operation::CorrectionWrite,
         Operation::CorrectionCheckBytes,
         Operation::CorrectionHeader,
+        Operation::TakeProposal,
+        Operation::ProposeOne,
     ];
     for operation in Operation::CALLS {
-        if operation.of_store() || of_correction.contains(&operation) {
+        if operation.of_store() || of_correction_and_mending.contains(&operation) {
             assert_eq!(stats.numbers(operation), operation.numbers());
         }
     }
@@ -72,12 +75,13 @@ fn same_seed_same_cases() {
     assert_eq!(first, again);
     assert_ne!(first, other);
     // The seed 0 is a seed like the others.
-    assert_ne!(Cases::new(0).nth(3), Cases::new(0).nth(36));
+    let next = 3 + Operation::CALLS.len();
+    assert_ne!(Cases::new(0).nth(3), Cases::new(0).nth(next));
 }
 
 #[test]
 fn a_case_survives_as_a_line_of_text() {
-    for case in Cases::new(11).take(33 * 200) {
+    for case in Cases::new(11).take(200 * Operation::CALLS.len()) {
         let line = case.to_string();
         assert!(!line.contains('\n'));
         assert_eq!(Case::from_text(&line), Ok(case));
@@ -112,6 +116,10 @@ fn a_line_of_text_is_read_strictly() {
         "correction_write format=2 bytes= out=",
         "correction_check_bytes word=0 out=",
         "correction_header bytes= out=",
+        "take_proposal format=2 proposed= received=",
+        "take_proposal format=0 proposed= received= out=",
+        "propose_one format=0 received=",
+        "propose_one format=1 received=0 out=",
     ] {
         assert!(Case::from_text(wrong).is_err(), "{wrong}");
     }
@@ -220,6 +228,7 @@ fn edges_of_the_outputs_are_met() {
         (Operation::FrameWrite, Some(0)),
         (Operation::CorrectionWrite, Some(0)),
         (Operation::CorrectionCheckBytes, Some(0)),
+        (Operation::ProposeOne, Some(0)),
         (Operation::Receive, Some(4)),
         (Operation::ReceiveManchester, Some(4)),
         (Operation::Send, Some(0)),
@@ -335,10 +344,13 @@ pub enum Flaw {
     Store(StoreFlaw),
     /// Wrong in a call of correction bytes.
     Correction(CorrectionFlaw),
+    /// Wrong in a call of mending.
+    Mending(MendingFlaw),
 }
 
 /// The second program with one flaw. Its calls of the settings store stand in
-/// `store_flaws.rs`, those of correction bytes in `correction_flaws.rs`.
+/// `store_flaws.rs`, those of correction bytes in `correction_flaws.rs`, those of
+/// mending in `mending_flaws.rs`.
 pub struct Broken(pub Flaw);
 
 impl Broken {
@@ -602,6 +614,10 @@ impl Implementation for Broken {
     fn correction_calls(&self) -> &dyn CorrectionCalls {
         self
     }
+
+    fn mending_calls(&self) -> &dyn MendingCalls {
+        self
+    }
 }
 
 /// The last lines that begin with a number, their place moved on.
@@ -727,7 +743,7 @@ fn every_field_of_every_row_is_compared() {
             }
         }
     }
-    assert_eq!(fields, 297);
+    assert_eq!(fields, 308);
 }
 
 #[test]

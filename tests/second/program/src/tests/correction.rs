@@ -195,13 +195,24 @@ fn zeros_before_a_word_change_nothing() {
 
 // ----------------------------------------------------------------- Annex C
 
-/// Annex C has no correction bytes. These were handed to this program, and it had
-/// to come to the same by itself.
+/// Two frames of Annex C, which has no correction bytes. The check bytes beside them
+/// were handed to this program, and it had to come to the same by itself.
+pub const ANNEX_C: [(Format, &str, &str); 2] = [
+    (
+        Format::A,
+        C2_FRAME,
+        "84EA276958EC76A29678BF51DFED7661D46D36B8523BAE787CEFFD7B007EC9C6",
+    ),
+    (
+        Format::B,
+        C3_FRAME,
+        "9B45F38E71EAB5DBC80186029EF980E188F8368D983CA055F21D5F34D4E85935",
+    ),
+];
+
 #[test]
 fn frames_of_annex_c_with_their_correction_bytes() {
-    let c2 = "84EA276958EC76A29678BF51DFED7661D46D36B8523BAE787CEFFD7B007EC9C6";
-    let c3 = "9B45F38E71EAB5DBC80186029EF980E188F8368D983CA055F21D5F34D4E85935";
-    for (format, frame, check_bytes) in [(Format::A, C2_FRAME, c2), (Format::B, C3_FRAME, c3)] {
+    for (format, frame, check_bytes) in ANNEX_C {
         let all = bytes(&format!("{frame} 2104 {check_bytes}"));
         assert_eq!(written(format, &bytes(frame)), all);
         assert_eq!(read_header(&all[all.len() - 34..]), Ok(()));

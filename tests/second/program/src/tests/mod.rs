@@ -7,6 +7,8 @@ mod correction;
 mod correction_flaws;
 mod edges;
 mod hidden;
+mod mending;
+mod mending_flaws;
 mod orders;
 mod round_trips;
 mod store;

@@ -1,0 +1,75 @@
+// The calls on proposals, each under the name of its field on the page of demands; and a frame on its way through a
+// cellar.
+ghost use mathlib.Core.Path.{_≡_};
+ghost use lib.ListN.{replicate};
+ghost use Rattle.answers.specs.declared.Written.{Written};
+ghost use Rattle.answers.specs.Outcome.{Outcome};
+ghost use Rattle.frame.specs.declared.Frame.{Frame};
+ghost use Rattle.frame.specs.Reads.{readingOf};
+ghost use Rattle.codewords.specs.Corrections.{correctingOf};
+ghost use Rattle.proposals.specs.declared.Proposal.{Proposal};
+ghost use Rattle.demands.specs.Rules.{Judged, JudgedLent};
+ghost use Rattle.demands.specs.MendingLadders as rule;
+use answers::Written;
+use frame::Format;
+use frame::Frame;
+use proposals::Proposal;
+
+fn judging_a_proposal(f: Format, p: &[u8], s: &[u8]) -> Proposal
+    ensures { λ r. ⌜ Judged Proposal.Refused (rule.judgeRule f (now (p .entry)) (now (s .entry))) r ⌝ }
+{
+    mending::judge(f, p, s)
+}
+
+fn proposing_for_one_byte(f: Format, s: &[u8], d: &mut [u8]) -> Written
+    ensures { λ r.
+        ⌜ JudgedLent Written.Refused (now (d .entry)) (rule.proposeRule 1 f (now (s .entry)) (now (d .entry)))
+        (record { answer = r; memory = now (d .exit) }) ⌝ }
+{
+    mending::propose_one(f, s, d)
+}
+
+// A frame is sent with its correction bytes, one byte behind the length byte comes wrong, a proposal is made for what
+// was received, judged, and read. That is just what reading the frame itself gives, whatever frame, place and byte
+// (document 02, 12/14, end to end). What is refused correction bytes is read as it is, and so it is where the place is
+// the length byte's or lies behind what was written.
+fn through_a_cellar(f: Format, s: &[u8], place: usize, byte: u8, d: &mut [u8]) -> Frame
+    ensures { λ r. ⌜ _≡_ {A = Outcome Frame} (record { answer = r; memory = now (d .exit) })
+        (readingOf f (now (s .entry)) (now (d .entry))) ⌝ }
+{
+    let mut sent = [0u8; 257];
+    match correction::write(f, s, &mut sent) {
+        Written::Refused(_) => frame::read(f, s, d),
+        Written::Accepted(size) => mended_and_read(f, s, &mut sent, size, place, byte, d),
+    }
+}
+
+// The second half of it: `sent` holds what was written.
+fn mended_and_read(
+    f: Format,
+    s: &[u8],
+    sent: &mut [u8],
+    size: usize,
+    place: usize,
+    byte: u8,
+    d: &mut [u8],
+) -> Frame
+    requires { ⌜ _≡_ {A = Outcome Written} (record { answer = Written.Accepted size; memory = now sent })
+        (correctingOf f (now s) (replicate 257 0)) ⌝ }
+    ensures { λ r. ⌜ _≡_ {A = Outcome Frame} (record { answer = r; memory = now (d .exit) })
+        (readingOf f (now (s .entry)) (now (d .entry))) ⌝ }
+{
+    if place < 1 {
+        return frame::read(f, s, d);
+    }
+    if size <= place {
+        return frame::read(f, s, d);
+    }
+    sent[place] = byte;
+    let mut proposal = [0u8; 255];
+    mending::propose_one(f, sent, &mut proposal);
+    match mending::judge(f, &proposal, sent) {
+        Proposal::Refused(why) => Frame::Refused(why),
+        Proposal::Taken(_) => frame::read(f, &proposal, d),
+    }
+}

@@ -1,0 +1,50 @@
+// The proposal for what was received.
+ghost use mathlib.Core.List.{_++_};
+ghost use mathlib.Core.Path.{_≡_};
+ghost use Prim.Native.Nat.{_+_, _≤_};
+ghost use lib.ListN.{length, drop};
+ghost use Rattle.answers.specs.Outcome.{Outcome};
+ghost use Rattle.proposals.specs.Received.{received};
+ghost use Rattle.proposals.specs.Proposals.{proposingOf};
+use crate::single::mend_one;
+use crate::words::CHECKS;
+use crate::words::CORRECTION;
+use crate::words::HEADER;
+use crate::words::size_in;
+use answers::Refusal;
+use answers::Written;
+use frame::Format;
+use frame::Frame;
+
+// The received word, from the first byte of out on.
+fn put_received(s: &[u8], size: usize, out: &mut [u8])
+    requires { ⌜ (size + 34 ≤ length (now s)) × (size + 32 ≤ length (now out)) ⌝ }
+    ensures { λ r. ⌜ now (out .exit) ≡ received size (now (s .entry)) ++ drop (size + 32) (now (out .entry)) ⌝ }
+{
+    blocks::copy_part(s, 0, size, out, 0);
+    blocks::copy_part(s, size + HEADER, CHECKS, out, size);
+}
+
+// Proposes, for the received bytes s, the word in which one wrong byte behind the length byte is mended, or the
+// received word if there is no such byte; bytes of out after it stay. s is a frame, a header of two bytes and the check
+// bytes, and may be longer.
+pub fn propose_one(f: Format, s: &[u8], out: &mut [u8]) -> Written
+    ensures { λ r. ⌜ _≡_ {A = Outcome Written} (record { answer = r; memory = now (out .exit) })
+        (proposingOf 1 f (now (s .entry)) (now (out .entry))) ⌝ }
+{
+    match size_in(f, s) {
+        Frame::Refused(r) => Written::Refused(r),
+        Frame::Accepted { size, n: _ } => {
+            if s.len() < size + CORRECTION {
+                return Written::Refused(Refusal::Short);
+            }
+            let whole = size + CHECKS;
+            if out.len() < whole {
+                return Written::Refused(Refusal::NoRoom);
+            }
+            put_received(s, size, out);
+            mend_one(&mut out[0..whole]);
+            Written::Accepted(whole)
+        }
+    }
+}

@@ -1,0 +1,10 @@
+pub mod CodeLaws
+pub mod AroundLaws
+pub mod NearestLaws
+pub mod OneByteLaws
+pub mod ReceivedLaws
+pub mod ProposalLaws
+pub mod WrittenLaws
+pub mod WorkedLaws
+pub mod WorkedExamples
+pub mod TwoLengths

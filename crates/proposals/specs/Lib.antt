@@ -1,0 +1,4 @@
+pub mod Received
+pub mod Near
+pub mod Proposals
+pub mod TakenWith
