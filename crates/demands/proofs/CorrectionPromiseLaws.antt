@@ -42,6 +42,7 @@ pub record Put (s d : List ℕ) (o : Outcome Written) (j : Frame) (y : ℕ) : Ty
   pub n : ℕ
   pub frame : j ≡ Frame.Accepted z n
   pub most : z ≤ 223
+  pub room : z + 34 ≤ length d
   pub size : z + 34 ≡ y
   pub memory : o .memory ≡ corrected (take z s) ++ drop (z + 34) d
 
@@ -53,17 +54,25 @@ module _ (s d : List ℕ) (y : ℕ) where
       (record { answer = Written.Accepted (z + 34); memory = corrected (take z s) ++ drop (z + 34) d }))
 
   put-by :
-      (z n : ℕ) (t u : Bool) → ltb 223 z ≡ t → putBy z t u .answer ≡ Written.Accepted y
+      (z n : ℕ) (t u : Bool) → ltb 223 z ≡ t → ltb (length d) (z + 34) ≡ u → putBy z t u .answer ≡ Written.Accepted y
       → Put s d (putBy z t u) (Frame.Accepted z n) y
-  put-by z n true u long h = absurd (zero-not-one (cc))
-  put-by z n false true long h = absurd (zero-not-one (cc))
-  put-by z n false false long h =
-      record { z = z; n = n; frame = refl; most = ltb-false 223 z long; size = cc; memory = refl }
+  put-by z n true u long few h = absurd (zero-not-one (cc))
+  put-by z n false true long few h = absurd (zero-not-one (cc))
+  put-by z n false false long few h =
+      record {
+        z = z;
+        n = n;
+        frame = refl;
+        most = ltb-false 223 z long;
+        room = ltb-false (length d) (z + 34) few;
+        size = cc;
+        memory = refl;
+      }
 
   put-accepted :
       (j : Frame) → putCorrected s d j .answer ≡ Written.Accepted y → Put s d (putCorrected s d j) j y
   unfolding putCorrected
-  put-accepted (Frame.Accepted z n) h = put-by z n (ltb 223 z) (ltb (length d) (z + 34)) refl h
+  put-accepted (Frame.Accepted z n) h = put-by z n (ltb 223 z) (ltb (length d) (z + 34)) refl refl h
   put-accepted (Frame.Refused r) h = absurd (zero-not-one (cc))
 
 pub read-alike :

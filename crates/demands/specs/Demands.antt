@@ -621,5 +621,5 @@ pub record MendingPromise : Type 0 where
       → take (z + 32) p ≡ word
   pub two-lengths :
       (s : List ℕ) × ((p : List ℕ) × ((q : List ℕ) × ((Bytes s × (Bytes p × Bytes q))
-      × (((proposalOf Format.B p s ≡ Proposal.Taken 1) × (judgeOf Format.B p ≡ Frame.Accepted 103 100))
-      × ((proposalOf Format.B q s ≡ Proposal.Taken 0) × (judgeOf Format.B q ≡ Frame.Accepted 71 68))))))
+      × (((proposalOf Format.B p s ≡ Proposal.Taken 1) × (judgeOf Format.B p ≡ Frame.Accepted 77 74))
+      × ((proposalOf Format.B q s ≡ Proposal.Taken 0) × (judgeOf Format.B q ≡ Frame.Accepted 13 10))))))

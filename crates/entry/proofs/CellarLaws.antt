@@ -30,58 +30,48 @@ use Rattle.demands.proofs.CorrectionPromiseLaws.{Put, correcting-put}
 use Rattle.demands.proofs.Demands.{mending-promise}
 use Rattle.demands.proofs.MendingPromiseLaws.{written-long}
 
-module _ (f : Format) (s sent : List ℕ) (size place byte : ℕ) (bytes : Bytes s)
+module _ (f : Format) (s sent lent : List ℕ) (size place byte : ℕ) (bytes : Bytes s)
     (written : _≡_ {A = Outcome Written} (record { answer = Written.Accepted size; memory = sent })
-    (correctingOf f s (replicate 257 0))) where
-  abbrev d : List ℕ
-  d = replicate 257 0
-
-  accepted : correctingOf f s d .answer ≡ Written.Accepted size
+    (correctingOf f s lent)) where
+  accepted : correctingOf f s lent .answer ≡ Written.Accepted size
   accepted = ap (λ (o : Outcome Written). o .answer) (sym written)
 
-  memory-is : correctingOf f s d .memory ≡ sent
+  memory-is : correctingOf f s lent .memory ≡ sent
   memory-is = ap (λ (o : Outcome Written). o .memory) (sym written)
 
+  abbrev put : Put s lent (correctingOf f s lent) (judgeOf f s) size
+  put = correcting-put f s lent size accepted
+
+  abbrev z : ℕ
+  z = put .z
+
   pub place-inside : place < size → place < length sent
-  place-inside h =
-      omega (
-        arith,
-        written-long f s d size bytes accepted,
-        correcting-put f s d size accepted .size,
-        ap length memory-is,
-      )
+  place-inside h = omega (arith, written-long f s lent size bytes accepted, put .size, ap length memory-is)
 
-  module _ (behind : 1 ≤ place) (inside : place < size) (small : byte < 256) {a : Written} {out : List ℕ}
+  -- the frame is one that reading accepts, and its correction had room, so that the page speaks of it
+  frame-there : FrameAt f s z (contentIn f (put .n) s)
+  frame-there = whole-frame (judgeOf-accepted f s (put .frame))
+
+  read-first : readingOf f s (replicate 255 0) .answer ≡ Frame.Accepted z (length (contentIn f (put .n) s))
+  read-first =
+      ap (λ (o : Outcome Frame). o .answer)
+      (read-accepts frame-there (replicate 255 0) (omega (arith, frame-there .high, longest-le f)))
+
+  module _ (behind : 1 ≤ place) (inside : place < size) (small : byte < 256) (e : List ℕ) (room : size ≤ length e)
+      {a : Written} {out : List ℕ}
       (proposed : _≡_ {A = Outcome Written} (record { answer = a; memory = out })
-      (proposingOf 1 f (set sent place byte) (replicate 255 0))) where
-    abbrev put : Put s d (correctingOf f s d) (judgeOf f s) size
-    put = correcting-put f s d size accepted
+      (proposingOf 1 f (set sent place byte) e)) where
+    abbrev m : List ℕ
+    m = correctingOf f s lent .memory
 
-    abbrev z : ℕ
-    z = put .z
-
-    abbrev r : List ℕ
-    r = set (correctingOf f s d .memory) place byte
-
-    -- the frame is one that reading accepts, so that the page speaks of it
-    frame-there : FrameAt f s z (contentIn f (put .n) s)
-    frame-there = whole-frame (judgeOf-accepted f s (put .frame))
-
-    read-first : readingOf f s (replicate 255 0) .answer ≡ Frame.Accepted z (length (contentIn f (put .n) s))
-    read-first =
-        ap (λ (o : Outcome Frame). o .answer)
-        (read-accepts frame-there (replicate 255 0) (omega (arith, frame-there .high, longest-le f)))
-
-    again : MendedAgain 1 f s (correctingOf f s d .memory) r (replicate 255 0) z
-        (apart (received z r) (received z (correctingOf f s d .memory)))
+    again : MendedAgain 1 f s m (set m place byte) e z (apart (received z (set m place byte)) (received z m))
     again =
-        mending-promise .mended-and-read f s (replicate 255 0) z _ bytes read-first (put .most) d
-        (omega (arith, put .most)) place byte behind (omega (arith, put .size)) small (replicate 255 0)
-        (omega (arith, put .most)) .1 .1
+        mending-promise .mended-and-read f s (replicate 255 0) z _ bytes read-first (put .most) lent (put .room) place
+        byte behind (omega (arith, put .size)) small e (omega (arith, put .size)) .1 .1
 
-    out-is : proposingOf 1 f r (replicate 255 0) .memory ≡ out
+    out-is : proposingOf 1 f (set m place byte) e .memory ≡ out
     out-is =
-        ap (λ (l : List ℕ). proposingOf 1 f (set l place byte) (replicate 255 0) .memory) memory-is
+        ap (λ (l : List ℕ). proposingOf 1 f (set l place byte) e .memory) memory-is
         ∙ ap (λ (o : Outcome Written). o .memory) (sym proposed)
 
     pub cellar-taken : (k : ℕ) × (proposalOf f out (set sent place byte) ≡ Proposal.Taken k)

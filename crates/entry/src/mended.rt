@@ -1,7 +1,8 @@
 // The calls on proposals, each under the name of its field on the page of demands; and a frame on its way through a
 // cellar.
+ghost use mathlib.Core.List.{List};
 ghost use mathlib.Core.Path.{_≡_};
-ghost use lib.ListN.{replicate};
+ghost use Prim.Native.Nat.{ℕ};
 ghost use Rattle.answers.specs.declared.Written.{Written};
 ghost use Rattle.answers.specs.Outcome.{Outcome};
 ghost use Rattle.frame.specs.declared.Frame.{Frame};
@@ -31,16 +32,24 @@ fn proposing_for_one_byte(f: Format, s: &[u8], d: &mut [u8]) -> Written
 
 // A frame is sent with its correction bytes, one byte behind the length byte comes wrong, a proposal is made for what
 // was received, judged, and read. That is just what reading the frame itself gives, whatever frame, place and byte
-// (document 02, 12/14, end to end). What is refused correction bytes is read as it is, and so it is where the place is
-// the length byte's or lies behind what was written.
-fn through_a_cellar(f: Format, s: &[u8], place: usize, byte: u8, d: &mut [u8]) -> Frame
+// (document 02, 12/14, end to end). `sent` and `proposal` are memory to work in. What is refused correction bytes is
+// read as it is, and so it is where the place is the length byte's or lies behind what was written, or where a proposal
+// has no room.
+fn through_a_cellar(
+    f: Format,
+    s: &[u8],
+    sent: &mut [u8],
+    place: usize,
+    byte: u8,
+    proposal: &mut [u8],
+    d: &mut [u8],
+) -> Frame
     ensures { λ r. ⌜ _≡_ {A = Outcome Frame} (record { answer = r; memory = now (d .exit) })
         (readingOf f (now (s .entry)) (now (d .entry))) ⌝ }
 {
-    let mut sent = [0u8; 257];
-    match correction::write(f, s, &mut sent) {
+    match correction::write(f, s, sent) {
         Written::Refused(_) => frame::read(f, s, d),
-        Written::Accepted(size) => mended_and_read(f, s, &mut sent, size, place, byte, d),
+        Written::Accepted(size) => mended_and_read(f, s, sent, size, place, byte, proposal, d),
     }
 }
 
@@ -52,10 +61,11 @@ fn mended_and_read(
     size: usize,
     place: usize,
     byte: u8,
+    proposal: &mut [u8],
     d: &mut [u8],
 ) -> Frame
-    requires { ⌜ _≡_ {A = Outcome Written} (record { answer = Written.Accepted size; memory = now sent })
-        (correctingOf f (now s) (replicate 257 0)) ⌝ }
+    requires { ⌜ ((lent : List ℕ) × (_≡_ {A = Outcome Written}
+        (record { answer = Written.Accepted size; memory = now sent }) (correctingOf f (now s) lent))) ⌝ }
     ensures { λ r. ⌜ _≡_ {A = Outcome Frame} (record { answer = r; memory = now (d .exit) })
         (readingOf f (now (s .entry)) (now (d .entry))) ⌝ }
 {
@@ -65,11 +75,13 @@ fn mended_and_read(
     if size <= place {
         return frame::read(f, s, d);
     }
+    if proposal.len() < size {
+        return frame::read(f, s, d);
+    }
     sent[place] = byte;
-    let mut proposal = [0u8; 255];
-    mending::propose_one(f, sent, &mut proposal);
-    match mending::judge(f, &proposal, sent) {
+    mending::propose_one(f, sent, proposal);
+    match mending::judge(f, proposal, sent) {
         Proposal::Refused(why) => Frame::Refused(why),
-        Proposal::Taken(_) => frame::read(f, &proposal, d),
+        Proposal::Taken(_) => frame::read(f, proposal, d),
     }
 }

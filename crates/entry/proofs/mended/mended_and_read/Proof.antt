@@ -33,22 +33,25 @@ same-length-2 c = search needs
 returns-2 : tie.Need-returns-2
 returns-2 c = search needs
 
+read-requires-3 : tie.Need-read-requires-3
+read-requires-3 c κs = search needs
+
+same-length-3 : tie.Need-same-length-3
+same-length-3 c = search needs
+
+returns-3 : tie.Need-returns-3
+returns-3 c = search needs
+
 slice-write-sent : tie.Need-slice-write-sent
 slice-write-sent c =
-    let known = c .before .before .before .before in
+    let known = c .before .before .before .before .before .before in
     let start = known .before in
     let a = start .args in
-    place-inside (a .f) (now (a .s)) (now (a .sent)) (a .size) (a .place) (a .byte)
-    (λ j. omega (arith, known .shared-slice-known .given j)) (start .pre) (c .if2 .left)
-
-slice-aggregate-propose-one : tie.Need-slice-aggregate-propose-one
-slice-aggregate-propose-one c = search needs
+    place-inside (a .f) (now (a .s)) (now (a .sent)) (start .pre .0) (a .size) (a .place) (a .byte)
+    (λ j. omega (arith, known .shared-slice-known .given j)) (start .pre .1) (c .before .if2 .left)
 
 propose-one-requires : tie.Need-propose-one-requires
 propose-one-requires c κs = search needs
-
-slice-aggregate-judge : tie.Need-slice-aggregate-judge
-slice-aggregate-judge c = search needs
 
 judge-requires : tie.Need-judge-requires
 judge-requires c κs = search needs
@@ -59,27 +62,8 @@ enum-known-why c = search needs
 enum-told : tie.Need-enum-told
 enum-told c = search needs
 
-slice-aggregate-read : tie.Need-slice-aggregate-read
-slice-aggregate-read c = search needs
-
-read-requires-3 : tie.Need-read-requires-3
-read-requires-3 c κs = search needs
-
-same-length-3 : tie.Need-same-length-3
-same-length-3 c = search needs
-
-returns-3 : tie.Need-returns-3
-returns-3 c =
-    let judged = c .before .before .before in
-    let made = judged .before .before .before .before in
-    let tested = made .before .before .before in
-    let known = tested .before .before .before .before in
-    let start = known .before in
-    let a = start .args in
-    let (k, taken) = cellar-taken (a .f) (now (a .s)) (now (a .sent)) (a .size) (a .place) (a .byte)
-    (λ j. omega (arith, known .shared-slice-known .given j)) (start .pre) (tested .before .if1 .left)
-    (tested .if2 .left) (omega arith) (made .propose-one .ensures) in
-    absurd (no-refusal (sym (judged .judge .ensures ∙ taken) ∙ c .before .why .given .1))
+read-requires-4 : tie.Need-read-requires-4
+read-requires-4 c κs = search needs
 
 same-length-4 : tie.Need-same-length-4
 same-length-4 c = search needs
@@ -89,17 +73,40 @@ same-length-5 c = search needs
 
 returns-4 : tie.Need-returns-4
 returns-4 c =
-    let read = c .before .before in
-    let judged = read .before .before .before .before .before in
-    let made = judged .before .before .before .before in
+    let judged = c .before .before .before in
+    let made = judged .before .before .before .before .before in
     let tested = made .before .before .before in
-    let known = tested .before .before .before .before in
+    let known = tested .before .before .before .before .before .before in
     let start = known .before in
     let a = start .args in
-    read .read3 .ensures
-    ∙ cellar-read (a .f) (now (a .s)) (now (a .sent)) (a .size) (a .place) (a .byte)
-    (λ j. omega (arith, known .shared-slice-known .given j)) (start .pre) (tested .before .if1 .left)
-    (tested .if2 .left) (omega arith) (made .propose-one .ensures) (now (a .d))
+    let (k, taken) = cellar-taken (a .f) (now (a .s)) (now (a .sent)) (start .pre .0) (a .size) (a .place) (a .byte)
+    (λ j. omega (arith, known .shared-slice-known .given j)) (start .pre .1) (tested .before .before .if1 .left)
+    (tested .before .if2 .left) (omega arith) (now (a .proposal)) (tested .if3 .left) (made .propose-one .ensures) in
+    absurd (no-refusal (sym (judged .judge .ensures ∙ taken) ∙ c .before .why .given .1))
+
+same-length-6 : tie.Need-same-length-6
+same-length-6 c = search needs
+
+same-length-7 : tie.Need-same-length-7
+same-length-7 c = search needs
+
+same-length-8 : tie.Need-same-length-8
+same-length-8 c = search needs
+
+returns-5 : tie.Need-returns-5
+returns-5 c =
+    let read = c .before .before in
+    let judged = read .before .before .before .before .before in
+    let made = judged .before .before .before .before .before in
+    let tested = made .before .before .before in
+    let known = tested .before .before .before .before .before .before in
+    let start = known .before in
+    let a = start .args in
+    read .read4 .ensures
+    ∙ cellar-read (a .f) (now (a .s)) (now (a .sent)) (start .pre .0) (a .size) (a .place) (a .byte)
+    (λ j. omega (arith, known .shared-slice-known .given j)) (start .pre .1) (tested .before .before .if1 .left)
+    (tested .before .if2 .left) (omega arith) (now (a .proposal)) (tested .if3 .left) (made .propose-one .ensures)
+    (now (a .d))
 
 pub mended-and-read-spec : {M : Type 1} → statement M
 mended-and-read-spec =
@@ -111,17 +118,19 @@ mended-and-read-spec =
     read-requires-2
     same-length-2
     returns-2
-    slice-write-sent
-    slice-aggregate-propose-one
-    propose-one-requires
-    slice-aggregate-judge
-    judge-requires
-    enum-known-why
-    enum-told
-    slice-aggregate-read
     read-requires-3
     same-length-3
     returns-3
+    slice-write-sent
+    propose-one-requires
+    judge-requires
+    enum-known-why
+    enum-told
+    read-requires-4
     same-length-4
     same-length-5
-    returns-4)
+    returns-4
+    same-length-6
+    same-length-7
+    same-length-8
+    returns-5)
