@@ -1,7 +1,7 @@
 /* The exported functions against plain C twins, in one interleaved run: each round times both one after the other on the
  * same input, and the medians over all rounds are compared. Buffers are warm and not cleared between calls.
  *   bench                          the table, and growth at five sizes
- *   bench names                    the rows' names
+ *   bench names                    the rows' names, each with the ratio of instructions to reach, if there is one
  *   bench count NAME SIDE TIMES    so many calls of one side, ours or other, for bench/run to count instructions */
 #define _POSIX_C_SOURCE 199309L
 #include "../include/kusikhut.h"
@@ -57,6 +57,7 @@ typedef void (*Call)(void);
 #define AGAINST_STORE "C: one pass, in place"
 #define AGAINST_LOGS "C, logarithm tables"
 #define AGAINST_BYTES "C, byte tables, divides once"
+#define AGAINST_VECTORS "C, 16 bytes at a time"
 #define NO_TARGET 0 /* measured for information */
 static const struct {
     const char *name, *ours, *against;
@@ -97,13 +98,40 @@ static const struct {
     {"mend255", "mend one wrong byte of 255", AGAINST_BYTES, mending_one255_ours, mending_one255_other, NO_TARGET},
     {"mend52", "mend one wrong byte of 52", AGAINST_BYTES, mending_one52_ours, mending_one52_other, NO_TARGET},
     {"mend_clean", "nothing to mend in 255", AGAINST_BYTES, mending_clean_ours, mending_clean_other, NO_TARGET},
+    {"propose0", "mend up to 16 of 255: none wrong", AGAINST_VECTORS, mending_propose0_ours, mending_propose0_other,
+     NO_TARGET},
+    {"propose1", "mend up to 16 of 255: one wrong", AGAINST_VECTORS, mending_propose1_ours, mending_propose1_other,
+     NO_TARGET},
+    {"propose8", "mend up to 16 of 255: 8 wrong", AGAINST_VECTORS, mending_propose8_ours, mending_propose8_other,
+     NO_TARGET},
+    {"propose16", "mend up to 16 of 255: 16 wrong", AGAINST_VECTORS, mending_propose16_ours, mending_propose16_other,
+     NO_TARGET},
 #ifdef LIBFEC
     {"libfec20", "check bytes of 20", "libfec", correction_checks20_ours, correction_checks20_libfec, 0.22},
     {"libfec223", "check bytes of 223", "libfec", correction_checks223_ours, correction_checks223_libfec, 0.20},
-    {"libfec_mend", "mend one wrong byte of 255", "libfec", mending_one255_ours, mending_one255_libfec, 0.5},
+    {"libfec_mend", "mend one wrong byte of 255", "libfec", mending_one255_ours, mending_wrong1_libfec, 0.5},
+    {"libfec_propose0", "mend up to 16 of 255: none wrong", "libfec", mending_propose0_ours, mending_wrong0_libfec,
+     NO_TARGET},
+    {"libfec_propose1", "mend up to 16 of 255: one wrong", "libfec", mending_propose1_ours, mending_wrong1_libfec,
+     NO_TARGET},
+    {"libfec_propose8", "mend up to 16 of 255: 8 wrong", "libfec", mending_propose8_ours, mending_wrong8_libfec,
+     NO_TARGET},
+    {"libfec_propose16", "mend up to 16 of 255: 16 wrong", "libfec", mending_propose16_ours, mending_wrong16_libfec,
+     NO_TARGET},
 #endif
 };
 enum { ROWS = sizeof rows / sizeof *rows };
+
+/* What is to be reached in instructions, which bench/run counts, and not in time. */
+static const struct {
+    const char *name;
+    double most;
+} in_instructions[] = {
+    {"libfec_propose0", 0.10},
+    {"libfec_propose1", 0.25},
+    {"libfec_propose8", 0.35},
+    {"libfec_propose16", 0.45},
+};
 
 static double now(void) {
     struct timespec t;
@@ -212,13 +240,20 @@ static void growth(void) {
     store_growth("restore into an empty store", store_restore_new_ours, store_restore_new_other);
 }
 
+static void print_name(const char *name) {
+    printf("%s", name);
+    for (size_t i = 0; i < sizeof in_instructions / sizeof *in_instructions; i++)
+        if (strcmp(name, in_instructions[i].name) == 0) printf(" %.2f", in_instructions[i].most);
+    puts("");
+}
+
 int main(int argc, char **argv) {
     prepare();
     if (!same_answers() || (argc == 1 && !(store_same() && correction_same() && mending_same()))) {
         puts("the twins answer otherwise: nothing was measured");
         return 1;
     }
-    for (size_t i = 0; argc == 2 && i < ROWS; i++) puts(rows[i].name);
+    for (size_t i = 0; argc == 2 && i < ROWS; i++) print_name(rows[i].name);
     if (argc == 2) return 0;
     for (size_t i = 0; argc == 5 && i < ROWS; i++)
         if (strcmp(argv[2], rows[i].name) == 0) {

@@ -1,7 +1,7 @@
 /* Compares the library with libfec, on words of every size, mostly random ones, some with few bytes that are not zero.
- * Check bytes are those of encode_rs_8; a written word with one wrong byte is mended as decode_rs_8 mends it; and what
- * that makes of a word with more is taken with as many differing bytes as were made wrong. Prints how many words there
- * were, and the first that differs. */
+ * Check bytes are those of encode_rs_8; a written word with one wrong byte, and one with up to 16, is mended as
+ * decode_rs_8 mends it; and what that makes of a word with more than one is taken with as many differing bytes as were
+ * made wrong. Prints how many words there were, and the first that differs. */
 #include "../include/kusikhut.h"
 #include "numbers.h"
 #include <fec.h>
@@ -10,8 +10,8 @@
 
 enum { LONGEST = 223, CHECKS = 32, HEADER = 2, BLOCK = LONGEST + CHECKS, RECEIVED = BLOCK + HEADER };
 
-/* Words of each size: for check bytes, for one wrong byte, and for 2 to 16, each as often. */
-enum { EACH = 1000, ONE_EACH = 510, MOST_WRONG = 16, SOME_EACH = 9 * (MOST_WRONG - 1) };
+/* Words of each size: for check bytes, for one wrong byte, for 1 to 16, and for 2 to 16, each as often. */
+enum { EACH = 1000, ONE_EACH = 510, MOST_WRONG = 16, UP_TO_EACH = 50 * MOST_WRONG, SOME_EACH = 9 * (MOST_WRONG - 1) };
 
 static uint32_t state = 20261115;
 
@@ -59,12 +59,14 @@ static unsigned long compare_check_bytes(void) {
 typedef uint8_t Filling(const uint8_t *, size_t, uint8_t *, size_t, uint64_t *);
 typedef uint8_t Judging(const uint8_t *, size_t, const uint8_t *, size_t, uint64_t *);
 static const struct {
-    Filling *write, *correct, *propose;
+    Filling *write, *correct, *propose_one, *propose;
     Judging *judge;
     size_t longest;
 } formats[] = {
-    {kusikhut_write_a, kusikhut_correction_write_a, kusikhut_mending_propose_one_a, kusikhut_mending_judge_a, 196},
-    {kusikhut_write_b, kusikhut_correction_write_b, kusikhut_mending_propose_one_b, kusikhut_mending_judge_b, 218},
+    {kusikhut_write_a, kusikhut_correction_write_a, kusikhut_mending_propose_one_a, kusikhut_mending_propose_a,
+     kusikhut_mending_judge_a, 196},
+    {kusikhut_write_b, kusikhut_correction_write_b, kusikhut_mending_propose_one_b, kusikhut_mending_propose_b,
+     kusikhut_mending_judge_b, 218},
 };
 enum { SHORTEST = 10, FORMATS = sizeof formats / sizeof *formats };
 
@@ -105,31 +107,43 @@ static size_t place_for_one(int k, size_t size) {
     return k % 8 < 4 ? ends[k % 8] : 1 + below((uint32_t)size + CHECKS - 1);
 }
 
-static int same_for_one(int f, int k, Case *c) {
+static int same_proposal(Filling *propose, Case *c, int wrong) {
     uint64_t results[1];
-    make_wrong(c, place_for_one(k, c->size));
     c->ours_len = c->size + CHECKS;
-    return mended_by_libfec(c) == 1 &&
-           formats[f].propose(c->received, c->size + HEADER + CHECKS, c->ours, BLOCK, results) == 0 &&
+    return mended_by_libfec(c) == wrong &&
+           propose(c->received, c->size + HEADER + CHECKS, c->ours, BLOCK, results) == 0 &&
            results[0] == c->ours_len && memcmp(c->ours, c->theirs, c->ours_len) == 0;
 }
 
-/* At any places, the length byte's among them: a proposal is judged by its own length byte. */
-static void make_some_wrong(Case *c, int wrong) {
+static int same_for_one(int f, int k, Case *c) {
+    make_wrong(c, place_for_one(k, c->size));
+    return same_proposal(formats[f].propose_one, c, 1);
+}
+
+/* At any places from the first on that may be wrong. */
+static void make_some_wrong(Case *c, int wrong, size_t first) {
     uint8_t taken[BLOCK] = {0};
     while (wrong > 0) {
-        size_t place = below((uint32_t)c->size + CHECKS);
+        size_t place = first + below((uint32_t)(c->size + CHECKS - first));
         if (taken[place]++) continue;
         make_wrong(c, place);
         wrong--;
     }
 }
 
-/* Ours are two bytes here, the answer and the count. */
+/* Never the length byte: no proposer mends it. */
+static int same_for_up_to_16(int f, int k, Case *c) {
+    int wrong = 1 + k % MOST_WRONG;
+    make_some_wrong(c, wrong, 1);
+    return same_proposal(formats[f].propose, c, wrong);
+}
+
+/* The length byte may be among them: a proposal is judged by its own. Ours are two bytes here, the answer and the
+ * count. */
 static int same_for_some(int f, int k, Case *c) {
     uint64_t results[1];
     int wrong = 2 + k % (MOST_WRONG - 1);
-    make_some_wrong(c, wrong);
+    make_some_wrong(c, wrong, 0);
     if (mended_by_libfec(c) != wrong) return 0;
     c->ours[0] = formats[f].judge(c->theirs, c->size + CHECKS, c->received, c->size + HEADER + CHECKS, results);
     c->ours[1] = (uint8_t)results[0];
@@ -158,6 +172,8 @@ static unsigned long compare_written(int each, int (*same_for)(int, int, Case *)
 int main(void) {
     unsigned long different = compare_check_bytes();
     different += compare_written(ONE_EACH, same_for_one, "one wrong byte", "mended otherwise than by decode_rs_8");
+    different += compare_written(UP_TO_EACH, same_for_up_to_16, "1 to 16 wrong bytes",
+                                 "mended otherwise than by decode_rs_8");
     different += compare_written(SOME_EACH, same_for_some, "2 to 16 wrong bytes",
                                  "not taken, as decode_rs_8 mended them, with as many differing");
     return different != 0;

@@ -1,5 +1,5 @@
-/* The rows of the mending: judging, and each call of the proposer for one wrong byte and of its twin, and libfec's
- * decoder where it is installed. */
+/* The rows of the mending: judging, each call of the proposers for one wrong byte and for up to 16 and of their twins,
+ * and libfec's decoder where it is installed. */
 #ifndef MENDING_ROWS_H
 #define MENDING_ROWS_H
 
@@ -10,10 +10,14 @@ void mending_prepare(void);
 int mending_same(void);
 
 void mending_judge_ours(void);
-#define EACH_MENDING_ROW(row) row(one255) row(one52) row(clean)
+#define EACH_MENDING_ROW(row) \
+    row(one255) row(one52) row(clean) row(propose0) row(propose1) row(propose8) row(propose16)
 #define DECLARED_MENDING(name) void mending_##name##_ours(void); void mending_##name##_other(void);
 EACH_MENDING_ROW(DECLARED_MENDING)
 #ifdef LIBFEC
-void mending_one255_libfec(void);
+void mending_wrong0_libfec(void);
+void mending_wrong1_libfec(void);
+void mending_wrong8_libfec(void);
+void mending_wrong16_libfec(void);
 #endif
 #endif

@@ -1,5 +1,5 @@
 # shellcheck shell=bash
-# What bench/run and bench/libfec share. Both are in the repository's top folder when they read it.
+# What bench/run, bench/libfec and bench/patterns share. All are in the repository's top folder when they read it.
 archive=target/staticlib/libkusikhut.a
 
 # The proved library, built where it is missing or older than its sources.

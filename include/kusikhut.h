@@ -139,6 +139,15 @@ uint8_t kusikhut_mending_propose_one_a(const uint8_t *received, size_t received_
 uint8_t kusikhut_mending_propose_one_b(const uint8_t *received, size_t received_len, uint8_t *out, size_t out_len,
                                        uint64_t results[1]);
 
+/* The same with up to 16 wrong bytes mended, wherever they stand behind the length byte: the word that was sent, if at
+ * most 16 of its bytes came wrong and the length byte came right (the header not counted). Where no code word with the
+ * received length byte is within 16 bytes, the received word as it is. If more than 16 came wrong, that is as a rule
+ * what comes out, and judging says 25; but another word may be near, and be taken. */
+uint8_t kusikhut_mending_propose_a(const uint8_t *received, size_t received_len, uint8_t *out, size_t out_len,
+                                   uint64_t results[1]);
+uint8_t kusikhut_mending_propose_b(const uint8_t *received, size_t received_len, uint8_t *out, size_t out_len,
+                                   uint64_t results[1]);
+
 /* Frames as chips. A kind is 0: mode T, format A; 1: mode C, format A; 2: mode C, format B; 3: Manchester, format A.
  * Receiving mode T or C: 0, or 10; 7 or 14; 1, 8; 1, 6; 2; 1, 6; 3; 4.
  * results: kind, place of the sync word (also for 8), positions tried (also for 7, 14), frame size, content length,

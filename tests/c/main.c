@@ -228,6 +228,43 @@ static void not_mended(void) {
     expect(kusikhut_mending_judge_a(word, WORD, got, CORRECTED, r) == 0 && r[0] == 1, "judge: the length byte differs");
 }
 
+/* One wrong byte more each time, from both ends: sixteen are mended, seventeen are left as they came. */
+static void mending_sixteen(void) {
+    uint8_t got[CORRECTED], word[WORD], copy[CORRECTED], out[WORD + 1];
+    uint64_t r[1];
+    sent_and_proposed(got, word);
+    got[20] = got[21] = 0xEE;
+    for (uint64_t wrong = 1; wrong <= 17; wrong++) {
+        got[wrong % 2 ? wrong : CORRECTED - wrong] ^= 0x5A;
+        memcpy(copy, got, CORRECTED);
+        memset(out, 0xEE, sizeof out);
+        expect(kusikhut_mending_propose_a(got, CORRECTED, out, WORD, r) == 0 && r[0] == WORD, "sixteen: 52 bytes");
+        expect(memcmp(got, copy, CORRECTED) == 0 && out[WORD] == 0xEE, "sixteen: received bytes and those behind stay");
+        if (wrong <= 16) {
+            expect(memcmp(out, word, WORD) == 0, "sixteen: what was sent");
+            expect(kusikhut_mending_judge_a(out, WORD, got, CORRECTED, r) == 0 && r[0] == wrong, "sixteen: counted");
+        } else {
+            expect(memcmp(out, got, 20) == 0 && memcmp(out + 20, got + 22, 32) == 0, "seventeen: as received");
+            expect(kusikhut_mending_judge_a(out, WORD, got, CORRECTED, r) == 25, "seventeen: no code word");
+        }
+    }
+    uint8_t got_b[55], out_b[53];
+    expect(kusikhut_correction_write_b(frame_b, 21, got_b, 55, r) == 0, "sixteen: format B");
+    memset(got_b + 1, 0xEE, 15);
+    expect(kusikhut_mending_propose_b(got_b, 55, out_b, 53, r) == 0 && r[0] == 53, "sixteen: 53 bytes");
+    expect(memcmp(out_b, frame_b, 21) == 0 && memcmp(out_b + 21, checks_b, 32) == 0, "sixteen: format B's word");
+    got_b[0] = 9;
+    memset(out_b, 0xEE, sizeof out_b);
+    expect(kusikhut_mending_propose_b(got_b, 0, out_b, 0, r) == 1 && r[0] == 0, "sixteen: nothing received");
+    expect(kusikhut_mending_propose_b(got_b, 55, out_b, 0, r) == 2 && r[0] == 0, "sixteen: the length byte");
+    got_b[0] = 223;
+    expect(kusikhut_mending_propose_b(got_b, 55, out_b, 0, r) == 23 && r[0] == 0, "sixteen: over 223 bytes");
+    got_b[0] = 20;
+    expect(kusikhut_mending_propose_b(got_b, 54, out_b, 0, r) == 1 && r[0] == 0, "sixteen: 1 before 4");
+    expect(kusikhut_mending_propose_b(got_b, 55, out_b, 52, r) == 4 && r[0] == 0, "sixteen: no room");
+    expect(all(out_b, 53, 0xEE), "sixteen: a refusal leaves lent memory");
+}
+
 static void proposing_refusals(void) {
     uint8_t got[CORRECTED], word[WORD], out[WORD];
     uint64_t r[2] = {0xEE, 0xEE};
@@ -331,6 +368,7 @@ int main(void) {
     mending_b();
     judging();
     not_mended();
+    mending_sixteen();
     proposing_refusals();
     new_store(store);
     numbers(store);

@@ -20,11 +20,18 @@ from pathlib import Path
 # public functions that may ask something of their caller (D23); none of them is an entry point or exported
 ASKING = {"chips::word", "chips::narrow", "blocks::first_wrong", "blocks::copy_part", "blocks::take_out",
           "blocks::put_all", "blocks::set_byte", "address::two_at", "address::name_at", "address::put_four",
-          "address::put_name", "address::four_at", "address::key_at", "address::put_number", "address::put_key"}
+          "address::put_name", "address::four_at", "address::key_at", "address::put_number", "address::put_key",
+          "products::times", "products::times_power", "products::ratio", "products::value_at", "products::combine",
+          "locating::locate", "repairing::repair"}
 # clauses beside the equation, by name: document 01's own words on the update (D20); they allow no other answer
 BESIDE = {("crc::update", "mends")}
-# clauses that settle and are no equation with a definition, word for word: a byte is itself, and below 256
-OTHERWISE = {"chips::wide": "λ r. ⌜ (r ≡ b) × (r < 256) ⌝"}
+# clauses that settle and are no equation with a definition, word for word: a byte is itself, and below 256; the other
+# two by theorems of their own (products/proofs/SettledLaws)
+OTHERWISE = {"chips::wide": "λ r. ⌜ (r ≡ b) × (r < 256) ⌝", "products::ratio": "λ r. ⌜ mul r b ≡ a ⌝",
+             "products::tables_lent": "λ r. ⌜ TablesOk (r .powers) (r .logs) ⌝"}
+# public functions that leave something open, and on purpose (D111): nobody sees it but the crate above. None of them is
+# an entry point or exported
+LEFT_OPEN = {"locating::locate", "repairing::repair"}
 # words of the toolchain that may stand in a RIGHT; HEADS may also begin it, as the bytes that are stored from a place on
 # (`sets`) or copied there (`paste`)
 KIT, HEADS = {"now", "length", "drop", "replicate"}, {"sets", "paste"}
@@ -147,7 +154,8 @@ def faults(function, is_defined=defined):
     _, clauses = parts(function.head)
     asks = any(word == "requires" for word, _, _ in clauses)
     found = ["it asks something of its caller"] if asks and (function.exported or function.name not in ASKING) else []
-    if [text for word, _, text in clauses if word == "ensures"] == [OTHERWISE.get(function.name)]:
+    settled = [text for word, _, text in clauses if word == "ensures"] == [OTHERWISE.get(function.name)]
+    if settled or function.name in LEFT_OPEN and not function.exported:
         return found
     result, right, wrong = equation(function)
     wrong = wrong or wrong_right(function, result, right, is_defined)

@@ -6,12 +6,14 @@
 Fails on: a line of more than 120 characters (imports aside); a path of four or more
 steps that stands twice in one answer of a Proof.antt; a law of more than 20 lines; more
 than one law in ten of over 8 lines (cases in a row with one right side count as one line). Walks by hand (WALKS) are left out: their text follows
-the program logic step by step. With --list it also names the laws of over 8 lines.
+the program logic step by step. Fails also on a line of a must-fail edit that rt passes over: a text of several lines is
+one replacement for each. With --list it also names the laws of over 8 lines.
 """
-import argparse, collections, os, re, sys
+import argparse, collections, glob, os, re, sys
 
 WIDEST, STEPS, LONGEST, USUAL = 120, 4, 20, 8
 WALKS = ("crates/chipreader/proofs/new/", "crates/chipreader/proofs/next/", "crates/chipreader/proofs/first/")
+EDIT = ("#", "file: ", "old: ", "new:")
 IMPORT = re.compile(r"\s*(ghost )?(pub )?use ")
 PATH = re.compile(r"\b[a-z][\w'-]*((?: \.[\w'-]+){%d,})" % STEPS)
 HEAD = re.compile(r"^( *)(?:(?:abbrev|unfoldable|pub|opaque) )*([^\s:=(]+)\s*(?::|$)")
@@ -82,6 +84,10 @@ def main():
                     long.append(f"{path}:{no}: {name}: {size(text)} lines")
                 if size(text) > LONGEST:
                     wrong.append(f"{path}:{no}: {name}: {size(text)} lines")
+    for edit in sorted(glob.glob(f"crates/{a.crate or '*'}/must-fail/*.edit")):
+        for no, line in enumerate(open(edit, encoding="utf-8").read().splitlines(), 1):
+            if line.strip() and not line.startswith(EDIT):
+                wrong.append(f"{edit}:{no}: rt passes over this line: the texts of an edit have one line each")
     if not a.crate and len(long) * 10 > laws:
         wrong.append(f"{len(long)} of {laws} laws have more than {USUAL} lines")
     for line in (long if a.list else []) + wrong:

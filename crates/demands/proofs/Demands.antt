@@ -44,8 +44,10 @@ use Rattle.codewords.proofs.NearLaws.{near-one}
 use Rattle.proposals.proofs.ProposalLaws.{taken-exactly}
 use Rattle.proposals.proofs.WrittenLaws.{taken-once, taken-judged}
 use Rattle.proposals.proofs.TwoLengths.{heard, short, long, all-are-bytes, long-is, short-is}
+use Rattle.proposals.proofs.SixteenLaws.{nearest-first, nearest-else, mends}
+use Rattle.proposals.proofs.Seventeen.{heard17, sent, other, all-bytes17, sent-is, other-is}
 use Rattle.kusikhut.specs.Told.{told, refusalPlace}
-use Rattle.demands.specs.Demands.{ChipNumbers, FrameNumbers, MeterNumbers, StoreNumbers, Plain, AcceptedRows, RefusedRows, StoreRows, InCodes, InHeaders, InBytes, InChips, Changes, StoreFiles, StoreMeters, StorePromise, CorrectionNumbers, CorrectionPromise, MendingNumbers, MendingPromise}
+use Rattle.demands.specs.Demands.{ChipNumbers, FrameNumbers, MeterNumbers, StoreNumbers, Plain, AcceptedRows, RefusedRows, StoreRows, InCodes, InHeaders, InBytes, InChips, Changes, StoreFiles, StoreMeters, StorePromise, CorrectionNumbers, CorrectionPromise, MendingNumbers, MendingPromise, SixteenPromise}
 use Rattle.demands.specs.Cases.{Spells}
 use Rattle.demands.specs.Touched.{Touched}
 use Rattle.demands.proofs.LineRuleLaws as line
@@ -61,7 +63,7 @@ use Rattle.demands.proofs.StorePromiseLaws.{emptying-within, written-re
 use Rattle.demands.proofs.CorrectionRuleLaws as correction
 use Rattle.demands.proofs.CorrectionPromiseLaws.{correcting-reads, correcting-announced, correcting-corrects, checks-correct}
 use Rattle.demands.proofs.MendingRuleLaws as mending
-use Rattle.demands.proofs.MendingPromiseLaws.{one-wrong-byte, code-word-alone, length-byte-stays, written-taken, taken-written, mended-and-read}
+use Rattle.demands.proofs.MendingPromiseLaws.{one-wrong-byte, code-word-alone, written-taken, taken-written, mended-and-read, sixteen-and-read, taken-or-none}
 use Rattle.demands.proofs.TouchLaws.{change-touched}
 
 pub chip-numbers : ChipNumbers
@@ -326,6 +328,7 @@ mending-numbers =
     record {
       judging-a-proposal = mending.judge-judged;
       proposing-for-one-byte = mending.propose-judged 1 (omega arith);
+      proposing-for-sixteen-bytes = mending.propose-judged 16 (omega arith);
     }
 
 pub mending-promise : MendingPromise
@@ -335,11 +338,20 @@ mending-promise =
       then-read = taken-judged;
       one-wrong-byte = one-wrong-byte;
       code-word-alone = code-word-alone;
-      else-received = λ w none m is. ⊎-elim (λ n. absurd (none m n)) (λ p. p .1) is;
-      length-byte-stays = length-byte-stays;
+      else-received = nearest-else 1;
+      length-byte-stays = nearest-first 1;
       mended-and-read = mended-and-read;
       taken-once = taken-once;
       written-is-taken = written-taken;
       taken-is-written = taken-written;
       two-lengths = (heard, (long, (short, (all-are-bytes, (long-is, short-is)))));
+    }
+
+pub sixteen-promise : SixteenPromise
+sixteen-promise =
+    record {
+      words = mends;
+      mended-and-read = sixteen-and-read;
+      taken-or-none = taken-or-none;
+      seventeen = (heard17, (sent, (other, (all-bytes17, (sent-is, other-is)))));
     }

@@ -1,13 +1,15 @@
 -- What the page says of mending (specs/Demands `MendingPromise`): a frame that was written with its correction bytes,
 -- and what was received of it.
---     one-wrong-byte, code-word-alone, length-byte-stays    what is proposed for a word
+--     one-wrong-byte, code-word-alone    what is proposed for a word
 --     written-sent        the word that was written is a code word of its frame's size
 --     written-taken       it is taken, where at most 16 bytes are wrong
 --     taken-written       and no other with its length byte
 --     written-mended      where at most k bytes behind the length byte are wrong, it is proposed, taken and read
 --     written-long        what was written has all its bytes
 --     one-byte-mended     so after a change of any one byte behind the length byte
---     mended-and-read     the same of a frame that reading accepts
+--     some-bytes-mended   so after changes of any up to 16 bytes behind the length byte
+--     mended-and-read, sixteen-and-read     the same of a frame that reading accepts
+--     taken-or-none       what is proposed is taken, or it is no code word
 -- Assumes nothing.
 use mathlib.Core.List.{List, [], _++_, append-nil, append-assoc}
 use mathlib.Core.Logic.{_⊎_, inl, inr, ⊎-elim}
@@ -17,6 +19,7 @@ use native.Mathlib.Omega.{arith}
 use lib.ListN.{length, getD, take, drop, set, length-append, length-set, List·getD-append}
 use lib.Seq.{take-at, length-take-le, getD-take, getD-set-other}
 use Rattle.answers.specs.Outcome.{Outcome}
+use Rattle.answers.specs.declared.Refusal.{Refusal}
 use Rattle.answers.specs.declared.Written.{Written}
 use Rattle.ground.specs.Apart.{apart}
 use Rattle.ground.specs.Bytes.{Bytes}
@@ -39,7 +42,8 @@ use Rattle.proposals.specs.Received.{received}
 use Rattle.proposals.specs.Near.{Nearest}
 use Rattle.proposals.specs.Proposals.{proposalOf, proposingOf}
 use Rattle.proposals.proofs.NearestLaws.{near-self, nearest-only}
-use Rattle.proposals.proofs.ReceivedLaws.{first-received, received-set}
+use Rattle.proposals.proofs.PlacedLaws.{placed, proposed-judged}
+use Rattle.proposals.proofs.ReceivedLaws.{first-received, bytes-received, received-set}
 use Rattle.proposals.proofs.WrittenLaws.{one-byte-near, Sent, word-proposed, word-taken, word-only}
 use Rattle.demands.specs.MendedAgain.{MendedAgain}
 use Rattle.demands.proofs.CorrectionPromiseLaws.{Put, read-alike, correcting-put, correcting-word}
@@ -56,9 +60,6 @@ one-wrong-byte c i b bytes most code behind m is =
 pub code-word-alone :
     (c : List ℕ) → Bytes c → length c ≤ 255 → CodeBlock c → (m : List ℕ) → Nearest 1 c m → m ≡ c
 code-word-alone c bytes most code m is = nearest-only 1 c (omega arith) most m c is (inl (near-self 1 c bytes code))
-
-pub length-byte-stays : (w m : List ℕ) → Nearest 1 w m → getD m 0 0 ≡ getD w 0 0
-length-byte-stays w m is = ⊎-elim (λ n. n .first) (λ p. ap (λ (l : List ℕ). getD l 0 0) (p .1)) is
 
 -- ---- a frame with its correction bytes
 
@@ -218,7 +219,24 @@ module _ (f : Format) (s d : List ℕ) (y : ℕ) (bytes : Bytes s)
           (getD-set-other m i 0 b 0 (λ e. omega arith) ∙ first-m) changed-few e room,
     )
 
+  -- ---- any up to sixteen
+
+  pub some-bytes-mended :
+      (r : List ℕ) → Bytes r → z + 34 ≤ length r → getD r 0 0 ≡ getD m 0 0
+      → apart (received z r) (received z m) ≤ 16 → (e : List ℕ) → z + 32 ≤ length e
+      → MendedAgain 16 f s m r e z (apart (received z r) (received z m))
+  some-bytes-mended r b there same few e room =
+      written-mended 16 (omega arith) r there (bytes-received z r b) (same ∙ first-m)
+      (rw (correcting-word f s d y h) at few) e room
+
 -- the same of a frame that reading accepts
+accepted-corrected :
+    (f : Format) (s room : List ℕ) (z n : ℕ) → readingOf f s room .answer ≡ Frame.Accepted z n → z ≤ 223
+    → (lent : List ℕ) → z + 34 ≤ length lent → correctingOf f s lent .answer ≡ Written.Accepted (z + 34)
+accepted-corrected f s room z n accepted most lent there =
+    let judged = judgeOf-frame (read-accepted f s room accepted .frame) in
+    ap (λ (o : Outcome Written). o .answer) (correcting-done f s lent judged most there)
+
 pub mended-and-read :
     (f : Format) (s room : List ℕ) (z n : ℕ) → Bytes s → readingOf f s room .answer ≡ Frame.Accepted z n → z ≤ 223
     → (lent : List ℕ) → z + 34 ≤ length lent
@@ -229,8 +247,31 @@ pub mended-and-read :
     (correctingOf f s lent .answer ≡ Written.Accepted (z + 34))
     × ((differing ≤ 1) × MendedAgain 1 f s m r e z differing)
 mended-and-read f s room z n bytes accepted most lent there i b behind inside byte e fits =
-    let judged = judgeOf-frame (read-accepted f s room accepted .frame) in
-    let h : correctingOf f s lent .answer ≡ Written.Accepted (z + 34) =
-    ap (λ (o : Outcome Written). o .answer) (correcting-done f s lent judged most there) in
+    let h = accepted-corrected f s room z n accepted most lent there in
     let same : correcting-put f s lent (z + 34) h .z ≡ z = omega (arith, correcting-put f s lent (z + 34) h .size) in
     (h, rw same at (one-byte-mended f s lent (z + 34) bytes h i b behind (omega arith) byte e (omega arith)))
+
+pub sixteen-and-read :
+    (f : Format) (s room : List ℕ) (z n : ℕ) → Bytes s → readingOf f s room .answer ≡ Frame.Accepted z n → z ≤ 223
+    → (lent : List ℕ) → z + 34 ≤ length lent
+    → let m = correctingOf f s lent .memory in
+    (r : List ℕ) → Bytes r → z + 34 ≤ length r → getD r 0 0 ≡ getD m 0 0
+    → let differing = apart (received z r) (received z m) in
+    differing ≤ 16 → (e : List ℕ) → z + 32 ≤ length e
+    → (correctingOf f s lent .answer ≡ Written.Accepted (z + 34)) × MendedAgain 16 f s m r e z differing
+sixteen-and-read f s room z n bytes accepted most lent there r b long first few e fits =
+    let h = accepted-corrected f s room z n accepted most lent there in
+    let same : correcting-put f s lent (z + 34) h .z ≡ z = omega (arith, correcting-put f s lent (z + 34) h .size) in
+    let mended = some-bytes-mended f s lent (z + 34) bytes h r b (rw same long) first (rw same few) e (rw same fits) in
+    (h, rw same at mended)
+
+-- ---- whatever was received
+
+pub taken-or-none :
+    (f : Format) (s d : List ℕ) (y : ℕ) → Bytes s → proposingOf 16 f s d .answer ≡ Written.Accepted y
+    → let p = proposingOf 16 f s d .memory in
+    ((k : ℕ) × ((k ≤ 16) × (proposalOf f p s ≡ Proposal.Taken k)))
+    ⊎ (proposalOf f p s ≡ Proposal.Refused Refusal.NotCode)
+taken-or-none f s d y bytes h =
+    let m = proposingOf 16 f s d .memory in
+    proposed-judged bytes (placed 16 f s d (ap (λ (a : Written). record { answer = a; memory = m }) (sym h)))

@@ -84,6 +84,7 @@ use Rattle.codewords.specs.Corrections.{correctingOf, checkingOf, announcedOf}
 use Rattle.proposals.specs.declared.Proposal.{Proposal}
 use Rattle.proposals.specs.Received.{received}
 use Rattle.proposals.specs.Near.{Near, Nearest}
+use Rattle.proposals.specs.Sixteen.{MendsSixteen}
 use Rattle.proposals.specs.Proposals.{proposalOf, proposingOf}
 use Rattle.proposals.specs.TakenWith.{TakenWith}
 use Rattle.channels.specs.declared.listing.Band.{Band}
@@ -288,6 +289,10 @@ pub record MendingNumbers : Type 0 where
   pub proposing-for-one-byte :
       (f : Format) (s : List ℕ) → Bytes s → (d : List ℕ)
       → JudgedLent Written.Refused d (mending.proposeRule 1 f s d) (proposingOf 1 f s d)
+  -- by mending::propose, kusikhut_mending_propose_a, kusikhut_mending_propose_b
+  pub proposing-for-sixteen-bytes :
+      (f : Format) (s : List ℕ) → Bytes s → (d : List ℕ)
+      → JudgedLent Written.Refused d (mending.proposeRule 16 f s d) (proposingOf 16 f s d)
 
 -- Calls that are never refused.
 pub record Plain : Type 0 where
@@ -623,3 +628,37 @@ pub record MendingPromise : Type 0 where
       (s : List ℕ) × ((p : List ℕ) × ((q : List ℕ) × ((Bytes s × (Bytes p × Bytes q))
       × (((proposalOf Format.B p s ≡ Proposal.Taken 1) × (judgeOf Format.B p ≡ Frame.Accepted 77 74))
       × ((proposalOf Format.B q s ≡ Proposal.Taken 0) × (judgeOf Format.B q ≡ Frame.Accepted 13 10))))))
+
+-- The whole strength of the correction bytes. The proposer for sixteen bytes (`proposing-for-sixteen-bytes`: what it
+-- proposes is `Nearest 16`) mends every up to sixteen wrong bytes of frame and check bytes behind the length byte, and
+-- proposes the received word where no code word is near (`MendsSixteen`, in words).
+--
+-- End to end: take an accepted frame of at most 223 bytes and write its correction bytes. Let any up to sixteen bytes
+-- of frame and check bytes behind the length byte change, header bytes as many as you like, and anything stand behind
+-- them. What is proposed is the word that was written, it is taken, with as many differing bytes as changed, and
+-- reading its frame gives the content again.
+--
+-- Beyond sixteen: whatever was received, what is proposed is taken, with at most 16 differing bytes, or it is refused
+-- with 25. What is taken then need not be what was sent: of `seventeen` a frame came with 17 wrong bytes, and another
+-- frame is proposed, taken with 16, and read.
+pub record SixteenPromise : Type 0 where
+  pub words : MendsSixteen
+  pub mended-and-read :
+      (f : Format) (s room : List ℕ) (z n : ℕ) → Bytes s → readingOf f s room .answer ≡ Frame.Accepted z n → z ≤ 223
+      → (lent : List ℕ) → z + 34 ≤ length lent
+      → let m = correctingOf f s lent .memory in
+      (r : List ℕ) → Bytes r → z + 34 ≤ length r → getD r 0 0 ≡ getD m 0 0
+      → let differing = apart (received z r) (received z m) in
+      differing ≤ 16 → (e : List ℕ) → z + 32 ≤ length e
+      → (correctingOf f s lent .answer ≡ Written.Accepted (z + 34)) × MendedAgain 16 f s m r e z differing
+  pub taken-or-none :
+      (f : Format) (s d : List ℕ) (y : ℕ) → Bytes s → proposingOf 16 f s d .answer ≡ Written.Accepted y
+      → let p = proposingOf 16 f s d .memory in
+      ((k : ℕ) × ((k ≤ 16) × (proposalOf f p s ≡ Proposal.Taken k)))
+      ⊎ (proposalOf f p s ≡ Proposal.Refused Refusal.NotCode)
+  pub seventeen :
+      (s : List ℕ) × ((c : List ℕ) × ((p : List ℕ) × ((Bytes s × (Bytes c × Bytes p))
+      × (((apart (received 20 s) c ≡ 17) × (judgeOf Format.A c ≡ Frame.Accepted 20 15))
+      × (((e : List ℕ) → 52 ≤ length e
+      → proposingOf 16 Format.A s e ≡ record { answer = Written.Accepted 52; memory = p ++ drop 52 e })
+      × ((proposalOf Format.A p s ≡ Proposal.Taken 16) × (judgeOf Format.A p ≡ Frame.Accepted 20 15)))))))

@@ -30,6 +30,14 @@ fn proposing_for_one_byte(f: Format, s: &[u8], d: &mut [u8]) -> Written
     mending::propose_one(f, s, d)
 }
 
+fn proposing_for_sixteen_bytes(f: Format, s: &[u8], d: &mut [u8]) -> Written
+    ensures { λ r.
+        ⌜ JudgedLent Written.Refused (now (d .entry)) (rule.proposeRule 16 f (now (s .entry)) (now (d .entry)))
+        (record { answer = r; memory = now (d .exit) }) ⌝ }
+{
+    mending::propose(f, s, d)
+}
+
 // A frame is sent with its correction bytes, one byte behind the length byte comes wrong, a proposal is made for what
 // was received, judged, and read. That is just what reading the frame itself gives, whatever frame, place and byte
 // (document 02, 12/14, end to end). `sent` and `proposal` are memory to work in. What is refused correction bytes is

@@ -3,6 +3,7 @@
 --     vanish         a word with at most n bytes that are not 0, and 0 at n powers of g in a row, has none
 --     ZeroFrom m     0 at 32 powers of g in a row, from g^m on
 --     vanish-all     so at most 32 bytes that are 0 there are zeros
+--     weight-apart   the sum of two words is 0 where they do not differ
 --     distance       two words of one length, 0 there, that differ at no more than 32 places are one
 -- Assumes nothing.
 use mathlib.Core.Bool.{Bool, true, false, cond}
@@ -91,7 +92,7 @@ one-apart x y w true e =
     omega (arith, ap (λ (s : ℕ). weight (s ∷ w)) gone)
 one-apart x y w false e = omega (arith, weight-one (bitXor x y) w)
 
-weight-apart : (u v : List ℕ) → weight (xors u v) ≤ apart u v
+pub weight-apart : (u v : List ℕ) → weight (xors u v) ≤ apart u v
 unfolding weight xors apart
 weight-apart [] v = omega arith
 weight-apart (x ∷ u) [] = omega arith

@@ -5,6 +5,7 @@
 --     zeros-front                  zeros in front change nothing
 --     eval-lt                      a value of bytes is a byte
 --     length-scaled, length-byRoot, bytes-scaled, bytes-byRoot    what the products are lists of
+--     getD-scaled                  a coefficient of a polynomial times an element
 --     eval-scaled, value-scaled    the value of a polynomial times an element
 --     value-byRoot                 the value of a polynomial times x + s
 --     value-at-root                is 0 at s
@@ -15,7 +16,7 @@ use mathlib.Core.List.{List, [], _∷_, _++_}
 use Prim.Native.Nat.{ℕ, zero, suc, _<_}
 use native.Mathlib.Omega.{arith}
 use lib.Bits.{bitXor, xor-lt, xor-self, xor-zero-r}
-use lib.ListN.{length, replicate, length-append}
+use lib.ListN.{length, getD, replicate, length-append}
 use Rattle.ground.specs.Bytes.{Bytes}
 use Rattle.ground.specs.Sums.{xors}
 use Rattle.ground.proofs.ByteLaws.{bytes-nil, bytes-cons, bytes-append}
@@ -70,6 +71,12 @@ pub bytes-scaled : (c : ℕ) (w : List ℕ) → c < 256 → Bytes (scaled c w)
 unfolding scaled
 bytes-scaled c [] h = bytes-nil
 bytes-scaled c (x ∷ w) h = bytes-cons (mul c x) (scaled c w) (mul-lt c x h) (bytes-scaled c w h)
+
+pub getD-scaled : (c : ℕ) (w : List ℕ) (j : ℕ) → getD (scaled c w) j 0 ≡ mul c (getD w j 0)
+unfolding scaled
+getD-scaled c [] j = sym (mul-zero-r c)
+getD-scaled c (x ∷ w) zero = refl
+getD-scaled c (x ∷ w) (suc j) = getD-scaled c w j
 
 pub eval-scaled : (r c a : ℕ) (w : List ℕ) → c < 256 → a < 256 → Bytes w
     → evalFrom r (mul c a) (scaled c w) ≡ mul c (evalFrom r a w)

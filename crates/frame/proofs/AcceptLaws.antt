@@ -2,6 +2,7 @@
 --     judgeOf-frame       a buffer that begins with the frame of c is accepted, with that frame's size and length
 --     sizeFor-frame       its length byte says so too
 --     frame-some          a frame has bytes
+--     sizeFor-some        and so says every allowed length byte
 --     WholeFrame f s z n  what an accepted buffer holds, as the walks over spans want it
 --     judgeOf-accepted    an accepted buffer holds it
 --     whole-frame         it then begins with the frame of the content that stands in it
@@ -14,7 +15,7 @@ use Prim.Native.Nat.{ℕ, _+_, _≤_, _<_}
 use native.Mathlib.Omega.{arith}
 use borrow.Author.Tests.{ltb-false}
 use lib.Dec.{ltb}
-use lib.ListN.{length, take, drop, getD, length-append, take-append-drop}
+use lib.ListN.{length, take, drop, getD, replicate, length-append, length-replicate, take-append-drop}
 use Rattle.ground.proofs.CaseLaws.{zero-not-one}
 use Rattle.blocks.specs.declared.Checks.{Checks}
 use Rattle.blocks.specs.declared.Checks.the-variants.{Right, Wrong}
@@ -79,6 +80,12 @@ module _ {f : Format} {s : List ℕ} {z : ℕ} {c : List ℕ} (at : FrameAt f s 
 
   pub contentIn-frame : contentIn f (length c) s ≡ c
   contentIn-frame = ap (contentIn f (length c)) frame-split ∙ contentIn-frameOf f c (drop z s)
+
+pub sizeFor-some : (f : Format) (l : ℕ) {z n : ℕ} → sizeFor f l ≡ Frame.Accepted z n → 0 < z
+sizeFor-some f l {z} {n} e =
+    let c = replicate {A = ℕ} n 0 in
+    let count = ap (frameSize f) (length-replicate {A = ℕ} n 0) in
+    omega (arith, sizeFor-accepted f l e .size, length-frameOf f c, ap length (frameOf-cons f c), count)
 
 pub record WholeFrame (f : Format) (s : List ℕ) (z n : ℕ) : Type 0 where
   pub low : formOf f .shortest ≤ n

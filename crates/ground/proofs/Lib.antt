@@ -5,6 +5,7 @@ pub mod SumLaws
 pub mod TableLaws
 pub mod StoresLaws
 pub mod FrontLaws
+pub mod InPlaceLaws
 pub mod CaseLaws
 pub mod BehindLaws
 pub mod ApartLaws

@@ -9,13 +9,14 @@
 --     xors-equal                   two lists of one length whose sum is zeros are one
 --     xors-append                  fronts of one length are added by themselves
 --     bytes-xors                   a sum of bytes is bytes
+--     getD-xors                    one element of a sum
 -- Assumes nothing.
 use mathlib.Core.Path.{_≡_, refl, sym, ap, ap₂, _∙_}
 use mathlib.Core.List.{List, [], _∷_, _++_}
-use Prim.Native.Nat.{ℕ, suc}
+use Prim.Native.Nat.{ℕ, zero, suc}
 use native.Mathlib.Omega.{arith}
 use lib.Bits.{bitXor, xor-comm, xor-self, xor-zero-r, xor-lt}
-use lib.ListN.{length, replicate}
+use lib.ListN.{length, getD, replicate}
 use Rattle.ground.specs.Bytes.{Bytes}
 use Rattle.ground.specs.Sums.{xors}
 use Rattle.ground.proofs.ByteLaws.{bytes-nil, bytes-cons}
@@ -89,3 +90,11 @@ bytes-xors [] v b c = bytes-nil
 bytes-xors (x ∷ u) [] b c = bytes-nil
 bytes-xors (x ∷ u) (y ∷ v) b c =
     bytes-cons (bitXor x y) (xors u v) (xor-lt 8 x y (b 0) (c 0)) (bytes-xors u v (λ j. b (suc j)) (λ j. c (suc j)))
+
+pub getD-xors : (u v : List ℕ) (j : ℕ) → length u ≡ length v → getD (xors u v) j 0 ≡ bitXor (getD u j 0) (getD v j 0)
+unfolding xors
+getD-xors [] [] j e = refl
+getD-xors [] (y ∷ v) j e = absurd (omega arith)
+getD-xors (x ∷ u) [] j e = absurd (omega arith)
+getD-xors (x ∷ u) (y ∷ v) zero e = refl
+getD-xors (x ∷ u) (y ∷ v) (suc j) e = getD-xors u v j (omega arith)

@@ -91,5 +91,6 @@ callCorrect f s d = tells toldWritten (correctingOf f s d)
 abbrev pub callCheckBytes : List ℕ → List ℕ → Outcome (Told ℕ)
 callCheckBytes w d = tells toldWritten (checkingOf w d)
 
-abbrev pub callProposeOne : Format → List ℕ → List ℕ → Outcome (Told ℕ)
-callProposeOne f s d = tells toldWritten (proposingOf 1 f s d)
+-- k is how many wrong bytes are mended
+abbrev pub callPropose : ℕ → Format → List ℕ → List ℕ → Outcome (Told ℕ)
+callPropose k f s d = tells toldWritten (proposingOf k f s d)

@@ -1,9 +1,10 @@
-// Proposals for received words, in formats A and B: judged, and made where one byte may be wrong. `p` is a proposal.
+// Proposals for received words, in formats A and B: judged, and made where one byte may be wrong or up to sixteen. `p`
+// is a proposal.
 ghost use mathlib.Core.Path.{_≡_};
 ghost use Rattle.frame.specs.declared.Format.{Format};
 ghost use Rattle.proposals.specs.Proposals.{proposalOf};
 ghost use Rattle.kusikhut.specs.Told.{told, shown, toldProposal};
-ghost use Rattle.kusikhut.specs.Calls.{callProposeOne};
+ghost use Rattle.kusikhut.specs.Calls.{callPropose};
 use crate::answers_calls::accept;
 use crate::answers_calls::refuse;
 use crate::answers_calls::tell_written;
@@ -40,7 +41,7 @@ pub extern "C" fn kusikhut_mending_judge_b(p: &[u8], s: &[u8], v: &mut [u64; 1])
 }
 
 fn propose_one(f: Format, s: &[u8], d: &mut [u8], v: &mut [u64; 1]) -> u8
-    ensures { λ r. ⌜ shown r (now (v .exit)) (now (d .exit)) ≡ callProposeOne f (now (s .entry)) (now (d .entry)) ⌝ }
+    ensures { λ r. ⌜ shown r (now (v .exit)) (now (d .exit)) ≡ callPropose 1 f (now (s .entry)) (now (d .entry)) ⌝ }
 {
     tell_written(mending::propose_one(f, s, d), v)
 }
@@ -48,7 +49,7 @@ fn propose_one(f: Format, s: &[u8], d: &mut [u8], v: &mut [u64; 1]) -> u8
 #[no_mangle]
 pub extern "C" fn kusikhut_mending_propose_one_a(s: &[u8], d: &mut [u8], v: &mut [u64; 1]) -> u8
     ensures { λ r.
-        ⌜ shown r (now (v .exit)) (now (d .exit)) ≡ callProposeOne Format.A (now (s .entry)) (now (d .entry)) ⌝ }
+        ⌜ shown r (now (v .exit)) (now (d .exit)) ≡ callPropose 1 Format.A (now (s .entry)) (now (d .entry)) ⌝ }
 {
     propose_one(Format::A, s, d, v)
 }
@@ -56,7 +57,29 @@ pub extern "C" fn kusikhut_mending_propose_one_a(s: &[u8], d: &mut [u8], v: &mut
 #[no_mangle]
 pub extern "C" fn kusikhut_mending_propose_one_b(s: &[u8], d: &mut [u8], v: &mut [u64; 1]) -> u8
     ensures { λ r.
-        ⌜ shown r (now (v .exit)) (now (d .exit)) ≡ callProposeOne Format.B (now (s .entry)) (now (d .entry)) ⌝ }
+        ⌜ shown r (now (v .exit)) (now (d .exit)) ≡ callPropose 1 Format.B (now (s .entry)) (now (d .entry)) ⌝ }
 {
     propose_one(Format::B, s, d, v)
+}
+
+fn propose(f: Format, s: &[u8], d: &mut [u8], v: &mut [u64; 1]) -> u8
+    ensures { λ r. ⌜ shown r (now (v .exit)) (now (d .exit)) ≡ callPropose 16 f (now (s .entry)) (now (d .entry)) ⌝ }
+{
+    tell_written(mending::propose(f, s, d), v)
+}
+
+#[no_mangle]
+pub extern "C" fn kusikhut_mending_propose_a(s: &[u8], d: &mut [u8], v: &mut [u64; 1]) -> u8
+    ensures { λ r.
+        ⌜ shown r (now (v .exit)) (now (d .exit)) ≡ callPropose 16 Format.A (now (s .entry)) (now (d .entry)) ⌝ }
+{
+    propose(Format::A, s, d, v)
+}
+
+#[no_mangle]
+pub extern "C" fn kusikhut_mending_propose_b(s: &[u8], d: &mut [u8], v: &mut [u64; 1]) -> u8
+    ensures { λ r.
+        ⌜ shown r (now (v .exit)) (now (d .exit)) ≡ callPropose 16 Format.B (now (s .entry)) (now (d .entry)) ⌝ }
+{
+    propose(Format::B, s, d, v)
 }

@@ -1,6 +1,4 @@
-pub mod WordLaws
-pub mod TableLaws
 pub mod LocateLaws
-pub mod AddLaws
+pub mod WordLaws
 pub mod MendLaws
 pub mod PutLaws

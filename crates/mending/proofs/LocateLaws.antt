@@ -15,8 +15,9 @@ use Rattle.ground.specs.Bytes.{Bytes}
 use Rattle.field.specs.Field.{mul, alphaTo}
 use Rattle.field.proofs.PowerLaws.{alphaTo-add, alphaTo-mod, power-cancel}
 use Rattle.field.proofs.PrimitiveLaws.{log, log-lt, alphaTo-log}
+use Rattle.products.specs.Tables.{TablesOk}
 use Rattle.mending.specs.declared.single.Fault.{Fault}
-use Rattle.mending.specs.Inner.{TablesOk, Locates}
+use Rattle.mending.specs.Inner.{Locates}
 
 -- ---- the numbers
 
@@ -70,7 +71,7 @@ module _ {powers logs : List ℕ} (ok : TablesOk powers logs) where
           ap₂ (λ (a b : ℕ). getD powers ((a + 255 - 212 * b % 255) % 255) 0) (log-value e (1232 * p) pos byte first)
           behind-is
           ∙ ap (λ (k : ℕ). getD powers k 0) (error-back (log e) p (log-lt e pos byte))
-          ∙ ok .power (log e) (log-lt e pos byte) ∙ alphaTo-log e pos byte
+          ∙ ok .power (log e) (omega (arith, log-lt e pos byte)) ∙ alphaTo-log e pos byte
 
     abbrev Wrong : ℕ → ℕ → Type 0
     Wrong e p =

@@ -1,4 +1,6 @@
 -- A word with one wrong byte, mended (specs/Inner `Points`, `Tried`).
+--     clean-nearest    a code word is itself proposed
+--     remains          the remainder of a word has its values at the roots
 --     points-clean     a code word has no wrong byte
 --     points-located   otherwise the values of the remainder at the first two roots tell where it is
 --     still-nearest    where none but the first could be wrong, the word itself is proposed
@@ -26,12 +28,24 @@ use Rattle.proposals.specs.Near.{Near, Nearest, isCodeBlock, nearestOf}
 use Rattle.proposals.proofs.CodeLaws.{isCodeBlock-code, notCodeBlock-not}
 use Rattle.proposals.proofs.NearestLaws.{near, near-self, near-same, nearest-is, nearest-near}
 use Rattle.proposals.proofs.OneByteLaws.{remainder-value, Differ, differ-one, error, place, error-lt, error-positive, one-value, mended, front-place}
+use Rattle.repairing.specs.Inner.{added}
+use Rattle.repairing.specs.Remains.{Remains}
 use Rattle.mending.specs.declared.single.Fault.{Fault}
-use Rattle.mending.specs.Inner.{withError, Locates, Points, Tried}
+use Rattle.mending.specs.Inner.{remainderOf, Locates, Points, Tried}
 
-no-error : (w : List ℕ) (i : ℕ) {e : ℕ} → e ≡ 0 → withError w i e ≡ w
+no-error : (w : List ℕ) (i : ℕ) {e : ℕ} → e ≡ 0 → added w i e ≡ w
 no-error w i z =
     ap (λ (x : ℕ). set w i (bitXor (getD w i 0) x)) z ∙ ap (set w i) (xor-zero-r (getD w i 0)) ∙ set-getD w i 0
+
+pub clean-nearest : (k : ℕ) (w : List ℕ) → Bytes w → length w ≤ 255 → k ≤ 16 → isCodeBlock w ≡ true → w ≡ nearestOf k w
+clean-nearest k w b most low t = sym (nearest-near k w low most b w (near-self k w b (isCodeBlock-code w t)))
+
+pub remains : (w : List ℕ) {rest : List ℕ} → Bytes w → 32 ≤ length w → rest ≡ remainderOf w → Remains w rest
+remains w b long is k h =
+    let end = length w - 32 in
+    ap (valueAt (root k)) is
+    ∙ sym (remainder-value k h (take end w) (drop end w) (bytes-take end w b) (omega (arith, length-drop end w)))
+    ∙ ap (valueAt (root k)) (take-append-drop end w)
 
 -- ---- where the wrong byte is
 
@@ -66,12 +80,12 @@ module _ (w : List ℕ) (end : ℕ) (bytes : Bytes w) (size : end + 32 ≡ lengt
     unfolding lowRoot
     second-value = second ∙ sym (word-value 1 (omega arith))
 
-    same-word : (c : List ℕ) → CodeBlock c → w ≡ c → c ≡ withError w (r .place) (r .error)
+    same-word : (c : List ℕ) → CodeBlock c → w ≡ c → c ≡ added w (r .place) (r .error)
     same-word c code e =
         let zero : x ≡ 0 = first-value ∙ ap (valueAt (root 0)) e ∙ code 0 (omega arith) in
         sym e ∙ sym (no-error w (r .place) (at .none zero))
 
-    one-byte : (c : List ℕ) → Near 1 w c → Differ w c → c ≡ withError w (r .place) (r .error)
+    one-byte : (c : List ℕ) → Near 1 w c → Differ w c → c ≡ added w (r .place) (r .error)
     one-byte c n d =
         let b = n .bytes in
         let code = n .code-word in
@@ -81,7 +95,7 @@ module _ (w : List ℕ) (end : ℕ) (bytes : Bytes w) (size : end + 32 ≡ lengt
         (first-value ∙ one-value d bytes b code 0 (omega arith))
         (second-value ∙ one-value d bytes b code 1 (omega arith)) in
         let here : length (d .front) ≡ r .place = omega (arith, long, found .0) in
-        sym (mended d bytes b code) ∙ ap₂ (withError w) here (sym (found .1))
+        sym (mended d bytes b code) ∙ ap₂ (added w) here (sym (found .1))
 
     pub points-located : Points w r
     points-located =
@@ -99,12 +113,12 @@ module _ (w : List ℕ) {r : Fault} (points : Points w r) (bytes : Bytes w) (mos
   i = r .place
 
   abbrev v : List ℕ
-  v = withError w (r .place) (r .error)
+  v = added w (r .place) (r .error)
 
   -- with the first byte as it was, a change of it is none
   first-stays : i ≡ 0 → (c : List ℕ) → Near 1 w c → c ≡ w
   first-stays z c n =
-      let e : c ≡ withError w 0 (r .error) = points .near c n ∙ ap (λ (k : ℕ). withError w k (r .error)) z in
+      let e : c ≡ added w 0 (r .error) = points .near c n ∙ ap (λ (k : ℕ). added w k (r .error)) z in
       let same : bitXor (getD w 0 0) (r .error) ≡ getD w 0 0 =
       sym (getD-set-same w 0 (bitXor (getD w 0 0) (r .error)) 0 (omega (arith, points .inside)))
       ∙ ap (λ (l : List ℕ). getD l 0 0) (sym e) ∙ n .first in

@@ -34,18 +34,3 @@ module _ (s d : List ℕ) (z : ℕ) (there : z + 34 ≤ length s) where
       en ∙ ap (λ (l : List ℕ). paste l z (drop (z + 2) s) 32) (copied-is em)
       ∙ ap₂ (λ (f b : List ℕ). (f ++ take 32 (drop (z + 2) s)) ++ b)
       (take-at (take z s) (drop z d) z length-frame) behind
-
-  module _ {m : List ℕ} (made : m ≡ received z s ++ drop (z + 32) d) where
-    pub word-in : take (z + 32 - 0) m ≡ received z s
-    word-in =
-        let all : z + 32 - 0 ≡ z + 32 = omega arith in
-        ap₂ take all made ∙ take-at (received z s) (drop (z + 32) d) (z + 32) (length-received s z there)
-
-    after : drop (z + 32 - 0) m ≡ drop (z + 32) d
-    after =
-        let all : z + 32 - 0 ≡ z + 32 = omega arith in
-        ap₂ drop all made ∙ drop-at (received z s) (drop (z + 32) d) (z + 32) (length-received s z there)
-
-    pub proposal-put : {n : List ℕ} → n ≡ nearestOf 1 (take (z + 32 - 0) m)
-        → n ++ drop (z + 32 - 0) m ≡ nearestOf 1 (received z s) ++ drop (z + 32) d
-    proposal-put e = ap₂ (λ (a b : List ℕ). a ++ b) (e ∙ ap (nearestOf 1) word-in) after

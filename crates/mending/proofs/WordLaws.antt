@@ -94,28 +94,30 @@ module _ (w : List ℕ) (end : ℕ) (bytes : Bytes w) (size : end + 32 ≡ lengt
           false≢true (sym t ∙ here-code e))
 
   -- what the writer of check bytes leaves in 32 bytes of memory
-  pub fresh-checks : {a : Written} {m : List ℕ} → end ≤ 223
-      → _≡_ {A = Outcome Written} (record { answer = a; memory = m }) (checkingOf (take (end - 0) w) (replicate 32 0))
+  pub fresh-checks : {a : Written} {m : List ℕ} (d : List ℕ) → length d ≡ 32 → end ≤ 223
+      → _≡_ {A = Outcome Written} (record { answer = a; memory = m }) (checkingOf (take (end - 0) w) d)
       → m ≡ checksOf (take end w)
-  fresh-checks {a} {m} most e =
+  fresh-checks {a} {m} d room most e =
       let all : end - 0 ≡ end = omega arith in
       let long : length (take (end - 0) w) ≤ 223 = rw (all, length-take-le end w (omega arith)) most in
-      ap (λ (o : Outcome Written). o .memory) (e ∙ checking-done (take (end - 0) w) (replicate 32 0) long (omega arith))
-      ∙ append-nil (checksOf (take (end - 0) w)) ∙ ap (λ (k : ℕ). checksOf (take k w)) all
+      let c = checksOf (take (end - 0) w) in
+      ap (λ (o : Outcome Written). o .memory) (e ∙ checking-done (take (end - 0) w) d long (omega arith))
+      ∙ ap (λ (l : List ℕ). c ++ l) (drop-of-length-le d {i = 32} (omega arith)) ∙ append-nil c
+      ∙ ap (λ (k : ℕ). checksOf (take k w)) all
 
   pub tail-part : take (length w - end) (drop end w) ≡ drop end w
   tail-part = take-all (length w - end) (drop end w) (omega (arith, length-drop end w))
 
-  pub code-tested : {d : ℕ} {a : Written} {m : List ℕ} → end ≤ 223
-      → _≡_ {A = Outcome Written} (record { answer = a; memory = m }) (checkingOf (take (end - 0) w) (replicate 32 0))
-      → d ≡ apart (take (length w - end) (drop end w)) m → eqb d 0 ≡ isCodeBlock w
-  code-tested most made is = tested (is ∙ ap₂ apart tail-part (fresh-checks most made))
+  pub code-tested : {n : ℕ} {a : Written} {m : List ℕ} (d : List ℕ) → length d ≡ 32 → end ≤ 223
+      → _≡_ {A = Outcome Written} (record { answer = a; memory = m }) (checkingOf (take (end - 0) w) d)
+      → n ≡ apart (take (length w - end) (drop end w)) m → eqb n 0 ≡ isCodeBlock w
+  code-tested d room most made is = tested (is ∙ ap₂ apart tail-part (fresh-checks d room most made))
 
   -- the check bytes that stand there, added to these
-  pub remainder-made : {a : Written} {m r : List ℕ} → end ≤ 223
-      → _≡_ {A = Outcome Written} (record { answer = a; memory = m }) (checkingOf (take (end - 0) w) (replicate 32 0))
+  pub remainder-made : {a : Written} {m r : List ℕ} (d : List ℕ) → length d ≡ 32 → end ≤ 223
+      → _≡_ {A = Outcome Written} (record { answer = a; memory = m }) (checkingOf (take (end - 0) w) d)
       → r ≡ xors (take (length w - end) (drop end w)) m → r ≡ xors (drop end w) (checksOf (take end w))
-  remainder-made most made is = is ∙ ap₂ xors tail-part (fresh-checks most made)
+  remainder-made d room most made is = is ∙ ap₂ xors tail-part (fresh-checks d room most made)
 
 -- ---- two words compared in two parts, as the code cuts them
 

@@ -1,5 +1,5 @@
 -- What the inner functions of mending cite.
---     TablesOk powers logs   the tables: alpha^k stands at k among the powers, and k at alpha^k among the logarithms
+--     remainderOf w          the last 32 bytes of w and the check bytes of those before, added
 --     Locates x y n r        if x and y are the values at the first two roots of one wrong byte with p bytes behind it
 --                            in a word of n bytes, r is its place and its error; and no error where x is 0
 --     Points w r             the code word near w is w with the error of r added at its place
@@ -8,20 +8,16 @@ use mathlib.Core.Bool.{cond}
 use mathlib.Core.List.{List}
 use mathlib.Core.Path.{_≡_}
 use Prim.Native.Nat.{ℕ, suc, _+_, _-_, _*_, _<_}
-use lib.Bits.{bitXor}
-use lib.ListN.{length, getD, set}
+use lib.ListN.{length, take, drop}
+use Rattle.ground.specs.Sums.{xors}
 use Rattle.field.specs.Field.{mul, alphaTo}
+use Rattle.codewords.specs.CheckBytes.{checksOf}
 use Rattle.proposals.specs.Near.{Near, isCodeBlock}
+use Rattle.repairing.specs.Inner.{added}
 use Rattle.mending.specs.declared.single.Fault.{Fault}
 
-pub record TablesOk (powers logs : List ℕ) : Type 0 where
-  pub count : length powers ≡ 255
-  pub logs-count : length logs ≡ 256
-  pub power : (k : ℕ) → k < 255 → getD powers k 0 ≡ alphaTo k
-  pub log : (k : ℕ) → k < 255 → getD logs (alphaTo k) 0 ≡ k
-
-abbrev pub withError : List ℕ → ℕ → ℕ → List ℕ
-withError w i e = set w i (bitXor (getD w i 0) e)
+abbrev pub remainderOf : List ℕ → List ℕ
+remainderOf w = let end = length w - 32 in xors (drop end w) (checksOf (take end w))
 
 pub record Locates (x y n : ℕ) (r : Fault) : Type 0 where
   pub inside : r .place < n
@@ -35,7 +31,7 @@ pub record Locates (x y n : ℕ) (r : Fault) : Type 0 where
 pub record Points (w : List ℕ) (r : Fault) : Type 0 where
   pub inside : r .place < length w
   pub byte : r .error < 256
-  pub near : (c : List ℕ) → Near 1 w c → c ≡ withError w (r .place) (r .error)
+  pub near : (c : List ℕ) → Near 1 w c → c ≡ added w (r .place) (r .error)
 
 abbrev pub Tried : List ℕ → ℕ → ℕ → List ℕ → Type 0
-Tried w i e m = m ≡ cond (isCodeBlock (withError w i e)) (withError w i e) w
+Tried w i e m = m ≡ cond (isCodeBlock (added w i e)) (added w i e) w

@@ -4,34 +4,21 @@
 ghost use mathlib.Core.Path.{_≡_};
 ghost use Prim.Native.Nat.{_≤_, _<_};
 ghost use lib.ListN.{length};
-ghost use Rattle.ground.specs.Sums.{xors};
 ghost use Rattle.field.specs.Field.{alphaTo};
 ghost use Rattle.field.specs.Polynomials.{valueAt};
+ghost use Rattle.products.specs.Tables.{TablesOk};
 ghost use Rattle.proposals.specs.Near.{nearestOf};
-ghost use Rattle.mending.specs.Inner.{TablesOk, Locates, Points, Tried};
-use crate::tables::LOGS;
-use crate::tables::POWERS;
-use crate::values::value_at;
+ghost use Rattle.mending.specs.Inner.{Locates, Points, Tried};
 use crate::words::CHECKS;
 use crate::words::code_word;
-use crate::words::differing;
+use crate::words::remainder;
+use products::tables_lent;
+use products::value_at;
 
 // One wrong byte: its place in the word, and the sum of the wrong and the right byte. 0 is no wrong byte.
 pub(crate) struct Fault {
     pub(crate) place: usize,
     pub(crate) error: u8,
-}
-
-// Adds the bytes of u to those of v, which are as many.
-fn add(u: &[u8], v: &mut [u8])
-    requires { ⌜ length (now u) ≡ length (now v) ⌝ }
-    ensures { λ r. ⌜ now (v .exit) ≡ xors (now (u .entry)) (now (v .entry)) ⌝ }
-{
-    let mut i: usize = 0;
-    while i < u.len() {
-        v[i] = u[i] ^ v[i];
-        i += 1;
-    }
 }
 
 // The exponents of the first two roots: 11 * 112 and 11 * 113, less multiples of 255, since alpha^255 is 1.
@@ -41,7 +28,7 @@ const SECOND_ROOT: usize = 223;
 
 // The one wrong byte of a word of n bytes whose values at the first two roots are x and y. 11 * 116 is 1 more than a
 // multiple of 255, so that times 116 undoes times 11.
-fn locate(powers: &[u8], logs: &[u8], x: u8, y: u8, n: usize) -> Fault
+fn locate(powers: &[u8], logs: &[u16], x: u8, y: u8, n: usize) -> Fault
     requires { ⌜ TablesOk (now powers) (now logs) ⌝ }
     requires { ⌜ 0 < n ⌝ }
     ensures { λ r. ⌜ Locates x y n r ⌝ }
@@ -64,7 +51,7 @@ fn locate(powers: &[u8], logs: &[u8], x: u8, y: u8, n: usize) -> Fault
 }
 
 // As `locate`, from the remainder of the word, which has its values at the roots.
-fn located(powers: &[u8], logs: &[u8], rest: &[u8], n: usize) -> Fault
+fn located(powers: &[u8], logs: &[u16], rest: &[u8], n: usize) -> Fault
     requires { ⌜ TablesOk (now powers) (now logs) ⌝ }
     requires { ⌜ 0 < n ⌝ }
     ensures { λ r.
@@ -75,14 +62,15 @@ fn located(powers: &[u8], logs: &[u8], rest: &[u8], n: usize) -> Fault
     locate(powers, logs, x, y, n)
 }
 
-// As `located`. The tables are copied once: a constant that is read in place is copied at each use.
+// As `located`, with the tables copied once.
 fn fault_of(rest: &[u8], n: usize) -> Fault
     requires { ⌜ 0 < n ⌝ }
     ensures { λ r.
         ⌜ Locates (valueAt (alphaTo 212) (now (rest .entry))) (valueAt (alphaTo 223) (now (rest .entry))) n r ⌝ }
 {
-    let powers = POWERS;
-    let logs = LOGS;
+    let tables = tables_lent();
+    let powers = tables.powers;
+    let logs = tables.logs;
     located(&powers, &logs, rest, n)
 }
 
@@ -91,13 +79,10 @@ fn fault_in(w: &[u8]) -> Fault
     requires { ⌜ (32 ≤ length (now w)) × (length (now w) ≤ 255) ⌝ }
     ensures { λ r. ⌜ Points (now (w .entry)) r ⌝ }
 {
-    let end = w.len() - CHECKS;
     let mut rest = [0u8; CHECKS];
-    correction::check_bytes(&w[0..end], &mut rest);
-    if differing(&w[end..], &rest) == 0 {
+    if remainder(w, &mut rest) {
         return Fault { place: 0, error: 0 };
     }
-    add(&w[end..], &mut rest);
     fault_of(&rest, w.len())
 }
 

@@ -5,8 +5,10 @@ ghost use Prim.Native.Nat.{_≤_};
 ghost use lib.Dec.{eqb};
 ghost use lib.ListN.{length};
 ghost use Rattle.ground.specs.Apart.{apart};
+ghost use Rattle.ground.specs.Sums.{xors};
 ghost use Rattle.proposals.specs.Received.{sizeIn};
 ghost use Rattle.proposals.specs.Near.{isCodeBlock};
+ghost use Rattle.mending.specs.Inner.{remainderOf};
 use answers::Refusal;
 use frame::Format;
 use frame::Frame;
@@ -59,6 +61,18 @@ pub(crate) fn differing(u: &[u8], v: &[u8]) -> usize
     count
 }
 
+// Adds the bytes of u to those of v, which are as many.
+fn add(u: &[u8], v: &mut [u8])
+    requires { ⌜ length (now u) ≡ length (now v) ⌝ }
+    ensures { λ r. ⌜ now (v .exit) ≡ xors (now (u .entry)) (now (v .entry)) ⌝ }
+{
+    let mut i: usize = 0;
+    while i < u.len() {
+        v[i] = u[i] ^ v[i];
+        i += 1;
+    }
+}
+
 // Whether a word is a code word: its check bytes are worked out afresh and compared. No other 32 bytes would do.
 pub(crate) fn code_word(w: &[u8]) -> bool
     requires { ⌜ (32 ≤ length (now w)) × (length (now w) ≤ 255) ⌝ }
@@ -68,4 +82,18 @@ pub(crate) fn code_word(w: &[u8]) -> bool
     let mut checks = [0u8; CHECKS];
     correction::check_bytes(&w[0..end], &mut checks);
     differing(&w[end..], &checks) == 0
+}
+
+// The same, and the remainder of the word: its check bytes and fresh ones, added. It has the word's values at the
+// roots.
+pub(crate) fn remainder(w: &[u8], rest: &mut [u8]) -> bool
+    requires { ⌜ (32 ≤ length (now w)) × (length (now w) ≤ 255) ⌝ }
+    requires { ⌜ length (now rest) ≡ 32 ⌝ }
+    ensures { λ r. ⌜ (r ≡ isCodeBlock (now (w .entry))) × (now (rest .exit) ≡ remainderOf (now (w .entry))) ⌝ }
+{
+    let end = w.len() - CHECKS;
+    correction::check_bytes(&w[0..end], rest);
+    let clean = differing(&w[end..], rest) == 0;
+    add(&w[end..], rest);
+    clean
 }

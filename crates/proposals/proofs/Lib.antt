@@ -8,3 +8,6 @@ pub mod WrittenLaws
 pub mod WorkedLaws
 pub mod WorkedExamples
 pub mod TwoLengths
+pub mod PlacedLaws
+pub mod SixteenLaws
+pub mod Seventeen

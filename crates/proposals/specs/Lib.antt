@@ -1,4 +1,5 @@
 pub mod Received
 pub mod Near
+pub mod Sixteen
 pub mod Proposals
 pub mod TakenWith

@@ -104,9 +104,14 @@ impl<'a> Args<'a> {
         }
     }
 
+    /// Which word an option is, for whoever finds fault with it.
+    pub fn option_place(&self, name: &str) -> usize {
+        self.options.iter().find(|&&(_, given, _)| given == name).map_or(self.last, |&(at, _, _)| at)
+    }
+
     /// The memory that `room` and `fill` ask to be lent; without `room`, as many bytes as `otherwise`.
     pub fn lent(&mut self, otherwise: usize) -> Result<Lent, String> {
-        let at = self.options.iter().find(|&&(_, given, _)| given == "room").map_or(self.last, |&(at, _, _)| at);
+        let at = self.option_place("room");
         let room = self.option("room", otherwise.min(MOST_LENT))?;
         if room > MOST_LENT {
             return Err(format!("word {at}: room is at most {MOST_LENT} here"));

@@ -37,6 +37,8 @@ extern "C" {
     pub fn kusikhut_mending_judge_b(p: *const u8, pl: usize, s: *const u8, sl: usize, r: *mut u64) -> u8;
     pub fn kusikhut_mending_propose_one_a(s: *const u8, sl: usize, o: *mut u8, ol: usize, r: *mut u64) -> u8;
     pub fn kusikhut_mending_propose_one_b(s: *const u8, sl: usize, o: *mut u8, ol: usize, r: *mut u64) -> u8;
+    pub fn kusikhut_mending_propose_a(s: *const u8, sl: usize, o: *mut u8, ol: usize, r: *mut u64) -> u8;
+    pub fn kusikhut_mending_propose_b(s: *const u8, sl: usize, o: *mut u8, ol: usize, r: *mut u64) -> u8;
     pub fn kusikhut_receive(c: *const u8, cl: usize, start: usize, allowance: usize, o: *mut u8, ol: usize, r: *mut u64) -> u8;
     pub fn kusikhut_receive_manchester(c: *const u8, cl: usize, start: usize, o: *mut u8, ol: usize, r: *mut u64) -> u8;
     pub fn kusikhut_send_t_a(c: *const u8, cl: usize, o: *mut u8, ol: usize, r: *mut u64) -> u8;

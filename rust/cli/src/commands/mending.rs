@@ -8,10 +8,10 @@ use kusikhut::{Format, Refusal, CORRECTION_SIZE};
 pub const COMMANDS: &[Command] = &[
     Command {
         name: "mend",
-        usage: "FORMAT RECEIVED [PROPOSAL] [room=255] [fill=00]",
+        usage: "FORMAT RECEIVED [PROPOSAL] [upto=16] [room=255] [fill=00]",
         does: "judge PROPOSAL (frame and check bytes) for RECEIVED (frame, header and check bytes), show where\n    \
-               they differ, and read what is taken; without PROPOSAL one that mends a single wrong byte;\n    \
-               read docs/CORRECTION.md before use",
+               they differ, and read what is taken; without PROPOSAL one that mends up to 16 wrong bytes, or\n    \
+               with upto=1 a single one, the length byte not covered; read docs/CORRECTION.md before use",
         example: "mend A 0F44AE0C7856341201074447780B134465871E6D2104\
                   84EA276958EC76A29678BF51DFED7661D46D36B8523BAE787CEFFD7B007EC9C6 room=15",
         run: mend,
@@ -24,34 +24,54 @@ fn mend(mut a: Args) -> Result<Reply, String> {
     let format = a.choice("FORMAT", &FORMATS)?;
     let received = a.bytes("RECEIVED")?;
     let given = if a.more() { Some(a.bytes("PROPOSAL")?) } else { None };
+    let proposer = if given.is_none() { a.proposer()? } else { PROPOSERS[0].1 };
     let mut lent = a.lent(255)?;
     a.end()?;
-    Ok(match given.map_or_else(|| proposed_for(format, &received), Ok) {
-        Ok(proposal) => judged(format, &proposal, &received, &mut lent),
+    let made = given.is_none();
+    Ok(match given.map_or_else(|| proposed_by(proposer, format, &received), Ok) {
+        Ok(proposal) => judged(format, &proposal, made, &received, &mut lent),
         Err(refusal) => Reply::refused(refusal),
     })
 }
 
-/// The single-byte proposer's. It has fewer bytes than were received, so that they are room enough.
-fn proposed_for(format: Format, received: &[u8]) -> Result<Vec<u8>, Refusal> {
+type Proposer = fn(Format, &[u8], &mut [u8]) -> Result<u64, Refusal>;
+
+/// By how many wrong bytes are mended, the usual one first.
+const PROPOSERS: [(usize, Proposer); 2] = [(16, Format::propose), (1, Format::propose_one)];
+
+impl Args<'_> {
+    fn proposer(&mut self) -> Result<Proposer, String> {
+        let at = self.option_place("upto");
+        let upto = self.option("upto", PROPOSERS[0].0)?;
+        let proposer = PROPOSERS.iter().find(|&&(bytes, _)| bytes == upto);
+        proposer.map(|&(_, proposer)| proposer).ok_or_else(|| format!("word {at}: upto is 16 or 1"))
+    }
+}
+
+/// What is proposed has fewer bytes than were received, so that they are room enough.
+fn proposed_by(proposer: Proposer, format: Format, received: &[u8]) -> Result<Vec<u8>, Refusal> {
     let mut proposal = vec![0; received.len()];
-    let size = format.propose_one(received, &mut proposal)?;
+    let size = proposer(format, received, &mut proposal)?;
     proposal.truncate(size as usize);
     Ok(proposal)
 }
 
 /// What judging answers, with the two words wherever it came to compare them; of a taken one also what reading answers.
-fn judged(format: Format, proposal: &[u8], received: &[u8], lent: &mut Lent) -> Reply {
+/// A proposer of ours goes by the received length byte, which is said: whoever knows another can propose it.
+fn judged(format: Format, proposal: &[u8], made: bool, received: &[u8], lent: &mut Lent) -> Reply {
+    let told = |reply| {
+        let reply = Words::of(format, proposal, received).tell(reply);
+        let uncovered = |row: Reply| row.field("length-byte", shown(&received[..1])).field("covered", "no");
+        if made { reply.below(uncovered) } else { reply }
+    };
     match format.judge_proposal(proposal, received) {
         Ok(differing) => {
-            let words = Words::of(format, proposal, received);
-            assert_eq!(words.places.len() as u64, differing, "the library counts the same places");
+            let places = Words::of(format, proposal, received).places.len() as u64;
+            assert_eq!(places, differing, "the library counts the same places");
             let read = reading(format, proposal, lent);
-            words.tell(Reply::accepted().field("differing", differing)).below(|row| row.field("reading", read.line()))
+            told(Reply::accepted().field("differing", differing)).below(|row| row.field("reading", read.line()))
         }
-        Err(refusal) if matches!(refusal.number(), NOT_CODE | TOO_FAR) => {
-            Words::of(format, proposal, received).tell(Reply::refused(refusal))
-        }
+        Err(refusal) if matches!(refusal.number(), NOT_CODE | TOO_FAR) => told(Reply::refused(refusal)),
         Err(refusal) => Reply::refused(refusal),
     }
 }

@@ -7,6 +7,8 @@
 //! - `compare sequences SEED COUNT` makes COUNT sequences of calls of the settings store, each on one memory, and holds
 //!   the promise of request 9/14 against the answers; then a store of the wrapper lives through the same calls, but for
 //!   those that it cannot be asked, and is held against the second program.
+//! - `compare patterns SEED COUNT` makes COUNT words with 3 to 16 wrong bytes, and some with more, and holds what the
+//!   library proposes against what was written and against the second program.
 //! - `compare words SEED COUNT` runs the program `words`, and with it the chip reader, on its edges and COUNT inputs.
 //! - `compare rerun` reads cases from standard input, one a line, and prints what both make of each.
 mod proved;
@@ -22,6 +24,7 @@ use second::compare::{compare, compare_cases, compare_small_inputs};
 use second::generator::{small_inputs, words_cases, Cases};
 use second::hidden::compare_hidden;
 use second::implementation::Second;
+use second::patterns::compare_patterns;
 use second::sequences::{compare_sequences, CALLS};
 use std::io::BufRead;
 use std::process::ExitCode;
@@ -33,8 +36,9 @@ fn main() -> ExitCode {
         [one] if one == "rerun" => rerun(),
         [seed, count] => run(seed, count),
         [one, seed, count] if one == "sequences" => run_sequences(seed, count),
+        [one, seed, count] if one == "patterns" => run_patterns(seed, count),
         [one, seed, count] if one == "words" => run_words(seed, count),
-        _ => Err("usage: compare [sequences | words] SEED COUNT | compare rerun".into()),
+        _ => Err("usage: compare [sequences | patterns | words] SEED COUNT | compare rerun".into()),
     };
     match done {
         Ok(()) => ExitCode::SUCCESS,
@@ -81,6 +85,15 @@ fn run_sequences(seed: &str, count: &str) -> Result<(), String> {
         "tests/second: the wrapper's store says the same as the second program in {calls} of these {all} calls, and is \
         written and listed alike after each; the others need a memory, mode or format that it cannot be handed"
     );
+    Ok(())
+}
+
+fn run_patterns(seed: &str, count: &str) -> Result<(), String> {
+    let (seed, count) = (number(seed)?, number(count)?);
+    let made = compare_patterns(&Proved, &Second, seed, count)
+        .map_err(|miss| format!("the proved library (first) and the second program, seed {seed}:\n{miss}"))?;
+    println!("{made}");
+    println!("tests/second: {count} words with 3 to 16 wrong bytes from seed {seed} mended by both, those with more alike");
     Ok(())
 }
 

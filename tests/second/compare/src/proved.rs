@@ -273,6 +273,14 @@ impl MendingCalls for Proved {
         };
         shown(received, |s, sl| fenced(out, |o| told(1, |r| unsafe { call(s, sl, o.as_mut_ptr(), o.len(), r) })))
     }
+
+    fn propose(&self, format: Format, received: &[u8], out: &mut [u8]) -> Answer {
+        let call: raw::BytesOut = match format {
+            Format::A => raw::kusikhut_mending_propose_a,
+            Format::B => raw::kusikhut_mending_propose_b,
+        };
+        shown(received, |s, sl| fenced(out, |o| told(1, |r| unsafe { call(s, sl, o.as_mut_ptr(), o.len(), r) })))
+    }
 }
 
 // The memory of a store stands between fences in every call. Where C has it as `const`, it must stay as it was.

@@ -281,6 +281,10 @@ impl MendingCalls for Wrapped {
     fn propose_one(&self, f: Format, received: &[u8], out: &mut [u8]) -> Answer {
         one(fenced(out, |out| format(f).propose_one(received, out)), |size| size)
     }
+
+    fn propose(&self, f: Format, received: &[u8], out: &mut [u8]) -> Answer {
+        one(fenced(out, |out| format(f).propose(received, out)), |size| size)
+    }
 }
 
 /// The wrapper's settings store. Of a change the wrapper tells no more than its success: the size in the row is that of

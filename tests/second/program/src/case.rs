@@ -31,6 +31,7 @@ pub enum Operation {
     CorrectionHeader,
     TakeProposal,
     ProposeOne,
+    Propose,
     Receive,
     ReceiveManchester,
     Send,
@@ -77,7 +78,7 @@ const METER: Shape = Shape::Exactly(8);
 
 impl Operation {
     /// The calls: what the library exports.
-    pub const CALLS: [Operation; 35] = [
+    pub const CALLS: [Operation; 36] = [
         Operation::Decode,
         Operation::Encode,
         Operation::Word,
@@ -93,6 +94,7 @@ impl Operation {
         Operation::CorrectionHeader,
         Operation::TakeProposal,
         Operation::ProposeOne,
+        Operation::Propose,
         Operation::Receive,
         Operation::ReceiveManchester,
         Operation::Send,
@@ -147,7 +149,7 @@ impl Operation {
             Operation::CorrectionCheckBytes => &[0, 4, 23],
             Operation::CorrectionHeader => &[0, 1, 24],
             Operation::TakeProposal => &[0, 1, 2, 23, 25, 26],
-            Operation::ProposeOne => &[0, 1, 2, 4, 23],
+            Operation::ProposeOne | Operation::Propose => &[0, 1, 2, 4, 23],
             Operation::Receive => &[0, 1, 2, 3, 4, 6, 7, 8, 10, 14],
             Operation::ReceiveManchester => &[0, 1, 2, 3, 4, 6, 10],
             Operation::Send => &[0, 4, 5],
@@ -190,6 +192,7 @@ impl Operation {
             Operation::CorrectionHeader => "correction_header",
             Operation::TakeProposal => "take_proposal",
             Operation::ProposeOne => "propose_one",
+            Operation::Propose => "propose",
             Operation::Receive => "receive",
             Operation::ReceiveManchester => "receive_manchester",
             Operation::Send => "send",
@@ -250,7 +253,9 @@ impl Operation {
             Operation::TakeProposal => {
                 &[("format", FORMAT), ("proposed", BYTES), ("received", BYTES)]
             }
-            Operation::ProposeOne => &[("format", FORMAT), ("received", BYTES), ("out", BYTES)],
+            Operation::ProposeOne | Operation::Propose => {
+                &[("format", FORMAT), ("received", BYTES), ("out", BYTES)]
+            }
             Operation::Receive => &[
                 ("chips", BYTES),
                 ("start", SIZE),
@@ -577,6 +582,9 @@ impl Case {
             }
             Operation::ProposeOne => {
                 with.mending_calls().propose_one(self.format(), self.bytes("received"), out)
+            }
+            Operation::Propose => {
+                with.mending_calls().propose(self.format(), self.bytes("received"), out)
             }
             Operation::Receive => with.receive(
                 self.bytes("chips"),

@@ -6,6 +6,7 @@ use crate::channels::{self, QUARTER};
 use crate::check;
 use crate::chips::{self, Code};
 use crate::correction;
+use crate::decoding;
 use crate::filter::{self, Entries};
 use crate::frames::{self, Format, Sizes};
 use crate::headers::{self, Header};
@@ -128,6 +129,9 @@ pub trait MendingCalls {
 
     /// The proposer of one wrong byte. Refusals 1, 2, 23, 1, 4. Row: bytes written.
     fn propose_one(&self, format: Format, received: &[u8], out: &mut [u8]) -> Answer;
+
+    /// The proposer of up to 16 wrong bytes. Refusals and row as for `propose_one`.
+    fn propose(&self, format: Format, received: &[u8], out: &mut [u8]) -> Answer;
 }
 
 /// The calls of the settings store (9/14). The caller owns the memory: a store in
@@ -379,6 +383,10 @@ impl MendingCalls for Second {
 
     fn propose_one(&self, format: Format, received: &[u8], out: &mut [u8]) -> Answer {
         one(mending::propose_one(format, received, out))
+    }
+
+    fn propose(&self, format: Format, received: &[u8], out: &mut [u8]) -> Answer {
+        one(decoding::propose(format, received, out))
     }
 }
 

@@ -7,6 +7,8 @@
 //!   store, one a line, each as a case with the memory that it finds.
 //! - `second stats SEED COUNT` makes cases and prints how often each operation
 //!   gave each answer number; `second sequences SEED COUNT` does so for sequences.
+//! - `second patterns SEED COUNT` makes patterns of wrong bytes, mends them, and
+//!   prints how many there were with each number of wrong bytes.
 
 use std::io::BufRead;
 use std::process::ExitCode;
@@ -15,10 +17,11 @@ use second::case::Case;
 use second::compare::compare;
 use second::generator::Cases;
 use second::implementation::Second;
+use second::patterns::compare_patterns;
 use second::sequences::{cases_of, compare_sequences};
 
 const USAGE: &str = "usage: second cases SEED COUNT | second rerun | second stats SEED COUNT | \
-    second sequence SEED INDEX | second sequences SEED COUNT";
+    second sequence SEED INDEX | second sequences SEED COUNT | second patterns SEED COUNT";
 
 fn main() -> ExitCode {
     let arguments: Vec<String> = std::env::args().skip(1).collect();
@@ -26,6 +29,7 @@ fn main() -> ExitCode {
     let done = match words[..] {
         ["rerun"] => rerun(),
         ["cases", seed, count] => cases(seed, count),
+        ["patterns", seed, count] => patterns(seed, count),
         ["sequence", seed, index] => sequence(seed, index),
         ["sequences", seed, count] => sequences(seed, count),
         ["stats", seed, count] => stats(seed, count),
@@ -57,6 +61,13 @@ fn cases(seed: &str, count: &str) -> Result<(), String> {
     for case in Cases::new(number(seed)?).take(count as usize) {
         println!("{case}");
     }
+    Ok(())
+}
+
+fn patterns(seed: &str, count: &str) -> Result<(), String> {
+    let (seed, count) = (number(seed)?, number(count)?);
+    let counts = compare_patterns(&Second, &Second, seed, count).map_err(|m| m.to_string())?;
+    println!("{counts}");
     Ok(())
 }
 

@@ -1,5 +1,6 @@
 //! Mending (12/14): a proposal of the corrected frame and check bytes is judged,
-//! and one proposer mends a single wrong byte.
+//! and one proposer mends a single wrong byte. The one that mends up to 16 of them
+//! is in `decoding.rs`.
 //!
 //! Nothing is divided by the generator here, and no check byte is worked out
 //! afresh. A word is of the code when it is 0 at each of the 32 roots of 11/14.
@@ -17,11 +18,11 @@ use crate::correction::{
 use crate::frames::Format;
 
 /// The most bytes in which a proposal may differ from what was received.
-const MOST_DIFFERENT: usize = 16;
+pub const MOST_DIFFERENT: usize = 16;
 
 /// The bytes of the longest word with its check bytes: 255. To that power every
 /// root is 1 again, as is any byte but 0.
-const LONGEST: usize = LONGEST_WORD + CHECK_BYTES;
+pub const LONGEST: usize = LONGEST_WORD + CHECK_BYTES;
 
 /// For each root its powers, from 0 to that of the first byte of the longest word.
 fn powers_of_roots() -> &'static Vec<Vec<u8>> {
@@ -79,7 +80,7 @@ fn proposal_for(word: &[u8]) -> Vec<u8> {
 
 /// The size of the frame whose L stands first, block checks not looked at. Order:
 /// 1 if there is no byte, 2, 23.
-fn frame_size(format: Format, bytes: &[u8]) -> Result<usize, Refusal> {
+pub fn frame_size(format: Format, bytes: &[u8]) -> Result<usize, Refusal> {
     let &length = bytes.first().ok_or(Refusal::Ends)?;
     let size = format.sizes(length)?.frame;
     if size > LONGEST_WORD {
@@ -90,9 +91,15 @@ fn frame_size(format: Format, bytes: &[u8]) -> Result<usize, Refusal> {
 
 /// What was received of a frame of this size and its check bytes, without the
 /// header between them; 1 if the bytes are too few.
-fn received_word(received: &[u8], frame: usize) -> Result<Vec<u8>, Refusal> {
+pub fn received_word(received: &[u8], frame: usize) -> Result<Vec<u8>, Refusal> {
     let all = received.get(..frame + CORRECTION).ok_or(Refusal::Ends)?;
     Ok([&all[..frame], &all[frame + HEADER_BYTES..]].concat())
+}
+
+/// In how many bytes two words of one length differ.
+pub fn different(one: &[u8], other: &[u8]) -> usize {
+    let pairs = one.iter().zip(other);
+    pairs.filter(|(one, other)| one != other).count()
 }
 
 /// Judging a proposal. Order: 1 if it is empty, 2, 23, 1, 25, 26. Answers in how
@@ -104,10 +111,7 @@ pub fn take(format: Format, proposed: &[u8], received: &[u8]) -> Result<usize, R
     if !is_code_word(proposal) {
         return Err(Refusal::NotOfTheCode);
     }
-    let pairs = proposal.iter().zip(&word);
-    let different = pairs
-        .filter(|(proposed, received)| proposed != received)
-        .count();
+    let different = different(proposal, &word);
     if different > MOST_DIFFERENT {
         return Err(Refusal::TooManyDiffer);
     }

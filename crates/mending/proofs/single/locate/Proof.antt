@@ -1,6 +1,8 @@
 -- `mending::single::locate` meets its contract. Assumes nothing.
 use native.Mathlib.Omega.{arith}
 use borrow.Author.Needs.{needs}
+use native.Mathlib.Nat.{pos-of-ne-zero}
+use Rattle.products.proofs.TableLaws.{log-small}
 use Rattle.mending.proofs.LocateLaws.{locates-none, locates-outside, locates-there}
 use Rattle.mending.proofs.single.locate.Statement.{statement}
 use Rattle.mending.proofs.single.locate.Tie as tie
@@ -8,11 +10,17 @@ use Rattle.mending.proofs.single.locate.Tie as tie
 returns : tie.Need-returns
 returns c = let start = c .before in locates-none (start .pre .0) _ _ _ (start .pre .1) (c .if1 .taken)
 
+mul-first : tie.Need-mul-first
+mul-first c = search needs
+
 shared-slice-read-first : tie.Need-shared-slice-read-first
 shared-slice-read-first c = search needs
 
 cast-first : tie.Need-cast-first
 cast-first c = omega (arith, c .shared-slice-known .given (c .before .before .args .x))
+
+mul-second : tie.Need-mul-second
+mul-second c = search needs
 
 shared-slice-read-second : tie.Need-shared-slice-read-second
 shared-slice-read-second c = search needs
@@ -24,7 +32,10 @@ add-behind : tie.Need-add-behind
 add-behind c = omega (arith, c .shared-slice-known2 .given (c .before .before .before .args .y))
 
 sub-behind : tie.Need-sub-behind
-sub-behind c = omega (arith, c .shared-slice-known2 .given (c .before .before .before .args .x))
+sub-behind c =
+    let tested = c .before .before in
+    let start = tested .before in
+    omega (arith, log-small (start .pre .0) (start .args .x) (pos-of-ne-zero (tested .if1 .left)) (omega arith))
 
 mul-behind : tie.Need-mul-behind
 mul-behind c =
@@ -68,8 +79,10 @@ locate-spec =
     tie.close
     (tie.spec
     returns
+    mul-first
     shared-slice-read-first
     cast-first
+    mul-second
     shared-slice-read-second
     cast-second
     add-behind

@@ -1,7 +1,9 @@
 -- `mending::words::code_word` meets its contract. Assumes nothing.
 use native.Mathlib.Omega.{arith}
 use borrow.Author.Needs.{needs}
+use mathlib.Core.Path.{refl}
 use denote.Ref.{now}
+use lib.ListN.{replicate}
 use Rattle.mending.proofs.WordLaws.{code-tested}
 use Rattle.mending.proofs.words.code_word.Statement.{statement}
 use Rattle.mending.proofs.words.code_word.Tie as tie
@@ -45,7 +47,7 @@ returns c =
     let known = made .before .before .before in
     let start = known .before in
     code-tested (now (start .args .w)) _ (λ j. omega (arith, known .shared-slice-known .given j)) (omega arith)
-    (omega arith) (made .check-bytes .ensures) (c .differing .ensures .0)
+    (replicate 32 0) refl (omega arith) (made .check-bytes .ensures) (c .differing .ensures .0)
 
 pub code-word-spec : {M : Type 1} → statement M
 code-word-spec =

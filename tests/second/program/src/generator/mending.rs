@@ -36,7 +36,7 @@ impl Word {
 // ------------------------------------------------------------------- the words
 
 /// Any byte but this one, often with a single bit turned.
-fn another(random: &mut Random, byte: u8) -> u8 {
+pub fn another(random: &mut Random, byte: u8) -> u8 {
     if random.once_in(2) {
         byte ^ (1 << random.below(8))
     } else {
@@ -60,7 +60,7 @@ fn any_content_length(random: &mut Random, format: Format) -> usize {
 
 /// A frame, mostly a sound one. Of some only the length byte means something:
 /// nobody looks at block checks here.
-fn any_frame(random: &mut Random, format: Format) -> Vec<u8> {
+pub fn any_frame(random: &mut Random, format: Format) -> Vec<u8> {
     let length = any_content_length(random, format);
     let content = random.bytes(length);
     let mut frame = frame_of(format, &content).expect("the length is allowed");
@@ -81,7 +81,7 @@ fn any_frame(random: &mut Random, format: Format) -> Vec<u8> {
 }
 
 /// The frame with its check bytes; with any bytes if it is too long to have some.
-fn code_word(random: &mut Random, frame: &[u8]) -> Word {
+pub fn code_word(random: &mut Random, frame: &[u8]) -> Word {
     let check_bytes = check_bytes_of(frame).unwrap_or_else(|_| random.bytes(CHECK_BYTES));
     Word::new(frame, &check_bytes)
 }
@@ -98,7 +98,7 @@ pub fn wrong_in_front(frame: &[u8], place: usize, byte: u8) -> Word {
     Word::new(frame, &check_bytes)
 }
 
-fn any_wrong_in_front(random: &mut Random, frame: &[u8]) -> Word {
+pub fn any_wrong_in_front(random: &mut Random, frame: &[u8]) -> Word {
     if frame.len() > LONGEST_WORD {
         return code_word(random, frame);
     }
@@ -125,7 +125,7 @@ fn seen_at_one_root() -> &'static Vec<Vec<u8>> {
 }
 
 /// A product, highest power first, with one factor more: x less a root.
-fn times_factor(product: Vec<u8>, root: u8) -> Vec<u8> {
+pub fn times_factor(product: Vec<u8>, root: u8) -> Vec<u8> {
     let mut longer = product.clone();
     longer.push(0);
     for (place, factor) in product.into_iter().enumerate() {
@@ -144,7 +144,7 @@ pub fn change_at_root(word: &mut Word, root: usize, often: u8) {
 }
 
 /// Often at the first or the last root, where a list of them may be cut.
-fn change_at_any_root(random: &mut Random, word: &mut Word) {
+pub fn change_at_any_root(random: &mut Random, word: &mut Word) {
     let root = match random.below(4) {
         0 => 0,
         1 => CHECK_BYTES - 1,
@@ -166,6 +166,12 @@ fn places(random: &mut Random, word: &Word) -> Vec<usize> {
         let edges = [0, 1, word.frame - 1, word.frame, last];
         places.push(left.remove(random.pick(&edges)));
     }
+    places.extend(in_any_order(random, left));
+    places
+}
+
+pub fn in_any_order(random: &mut Random, mut left: Vec<usize>) -> Vec<usize> {
+    let mut places = Vec::new();
     while !left.is_empty() {
         places.push(left.swap_remove(random.below(left.len())));
     }
@@ -180,7 +186,7 @@ fn damage(random: &mut Random, word: &mut Word, count: usize) {
 }
 
 /// As it is received: in every other case with a damaged header.
-fn received(random: &mut Random, word: &Word) -> Vec<u8> {
+pub fn received(random: &mut Random, word: &Word) -> Vec<u8> {
     let mut header = HEADER.to_le_bytes();
     match random.below(6) {
         0 => header[0] = random.byte(),
@@ -192,7 +198,7 @@ fn received(random: &mut Random, word: &Word) -> Vec<u8> {
 }
 
 /// In every other case bytes are missing, or there are more.
-fn cut_or_longer(random: &mut Random, bytes: &mut Vec<u8>) {
+pub fn cut_or_longer(random: &mut Random, bytes: &mut Vec<u8>) {
     let size = bytes.len();
     match random.below(20) {
         0 => bytes.clear(),
@@ -212,7 +218,7 @@ fn cut_or_longer(random: &mut Random, bytes: &mut Vec<u8>) {
 }
 
 /// Bytes that are no word at all, behind any length byte.
-fn garbage(random: &mut Random) -> Vec<u8> {
+pub fn garbage(random: &mut Random) -> Vec<u8> {
     let length = random.below(330);
     let mut bytes = vec![any_length(random)];
     bytes.extend(random.bytes(length));
@@ -317,10 +323,15 @@ pub fn propose_one(random: &mut Random) -> Vec<Argument> {
     if random.once_in(24) {
         received = garbage(random);
     }
+    let out = output_for_proposal(random, format, &received);
+    vec![number(format as u8), received.into(), out.into()]
+}
+
+/// Lent memory for what is proposed, by the received L.
+pub fn output_for_proposal(random: &mut Random, format: Format, received: &[u8]) -> Vec<u8> {
     let promised = match received.first().map(|&length| format.sizes(length)) {
         Some(Ok(sizes)) => sizes.frame,
         _ => 20,
     };
-    let out = output_for(random, promised + CHECK_BYTES);
-    vec![number(format as u8), received.into(), out.into()]
+    output_for(random, promised + CHECK_BYTES)
 }

@@ -47,27 +47,27 @@ fn propose_with_room(format: Format, word: &Word) -> Case {
 }
 
 /// Bytes that all differ from their neighbours.
-fn bytes(count: usize) -> Vec<u8> {
+pub fn bytes(count: usize) -> Vec<u8> {
     (0..count).map(|place| (13 * place + 7) as u8).collect()
 }
 
-fn frame(format: Format, n: usize) -> Vec<u8> {
+pub fn frame(format: Format, n: usize) -> Vec<u8> {
     frame_of(format, &bytes(n)).expect("the length is allowed")
 }
 
 /// A frame with its check bytes; with some bytes if it is too long to have any.
-fn word(format: Format, n: usize) -> Word {
+pub fn word(format: Format, n: usize) -> Word {
     let frame = frame(format, n);
     let check_bytes = check_bytes_of(&frame).unwrap_or_else(|_| bytes(CHECK_BYTES));
     Word::new(&frame, &check_bytes)
 }
 
-fn received(word: &Word) -> Vec<u8> {
+pub fn received(word: &Word) -> Vec<u8> {
     word.received_with(&HEADER.to_le_bytes())
 }
 
 /// The same word with some bytes changed.
-fn changed(word: &Word, places: impl IntoIterator<Item = usize>, by: u8) -> Word {
+pub fn changed(word: &Word, places: impl IntoIterator<Item = usize>, by: u8) -> Word {
     let mut changed = word.clone();
     for place in places {
         changed.bytes[place] ^= by;
@@ -76,7 +76,7 @@ fn changed(word: &Word, places: impl IntoIterator<Item = usize>, by: u8) -> Word
 }
 
 /// The shortest word and the longest.
-fn both_ends(format: Format) -> [Word; 2] {
+pub fn both_ends(format: Format) -> [Word; 2] {
     let [_, longest, _] = about_the_longest(format);
     [Format::SHORTEST, longest].map(|n| word(format, n))
 }
@@ -328,7 +328,7 @@ fn words_cut_or_longer() -> Vec<Case> {
 }
 
 /// Cut or made longer: what is left is nothing, the length byte, the frame or more.
-fn cuts(bytes: &[u8], frame: usize) -> Vec<Vec<u8>> {
+pub fn cuts(bytes: &[u8], frame: usize) -> Vec<Vec<u8>> {
     let size = bytes.len();
     let lengths = [0, 1, frame, size - 2, size - 1, size, size + 1, size + 34];
     let cut = |length| {

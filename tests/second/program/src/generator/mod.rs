@@ -6,9 +6,12 @@ mod bytes;
 mod chips;
 mod correction;
 mod correction_inputs;
+mod decoding;
+mod decoding_inputs;
 mod mending;
 mod mending_inputs;
 mod names;
+pub mod patterns;
 mod radio;
 pub mod sequence;
 mod store;
@@ -20,6 +23,7 @@ use crate::implementation::Implementation;
 use crate::random::Random;
 
 pub use correction_inputs::correction_inputs;
+pub use decoding_inputs::decoding_inputs;
 pub use mending_inputs::mending_inputs;
 pub use store_inputs::store_inputs;
 
@@ -81,6 +85,7 @@ pub fn case(random: &mut Random, operation: Operation) -> Case {
         Operation::CorrectionHeader => correction::header(random),
         Operation::TakeProposal => mending::take_proposal(random),
         Operation::ProposeOne => mending::propose_one(random),
+        Operation::Propose => decoding::propose(random),
         Operation::Receive => radio::receive(random),
         Operation::ReceiveManchester => radio::receive_manchester(random),
         Operation::Send => radio::send(random),
@@ -111,7 +116,7 @@ pub fn case(random: &mut Random, operation: Operation) -> Case {
 /// Every input of the operations that have few: access, letters, frame sizes,
 /// all indices and channels a little beyond Table 21, and the lists of all bands
 /// a little beyond the longest, for every letter; and the small inputs of
-/// correction bytes and of mending.
+/// correction bytes and of mending, by one proposer and by the other.
 pub fn small_inputs() -> Vec<Case> {
     let mut cases = Vec::new();
     for cc in 0..=0xFFu8 {
@@ -145,6 +150,7 @@ pub fn small_inputs() -> Vec<Case> {
     }
     cases.extend(correction_inputs());
     cases.extend(mending_inputs());
+    cases.extend(decoding_inputs());
     cases
 }
 

@@ -175,6 +175,19 @@ fn mending() {
     is(propose(&wrong[..48], &mut out), 1, &[0]);
     is(propose(&[9], &mut out), 2, &[0]);
     is(propose(&[197], &mut out), 23, &[0]);
+
+    let propose = |received: &[u8], out: &mut [u8]| Second.propose(Format::A, received, out);
+    wrong = written;
+    wrong[1..15].fill(0xEE);
+    wrong[47..].fill(0xEE);
+    out.fill(0xEE);
+    is(propose(&wrong, &mut out), 0, &[47]);
+    assert_eq!(out[..47], word);
+    assert_eq!(out[47], 0xEE);
+    is(propose(&wrong, &mut out[..46]), 4, &[0]);
+    is(propose(&wrong[..48], &mut out), 1, &[0]);
+    is(propose(&[9], &mut out), 2, &[0]);
+    is(propose(&[197], &mut out), 23, &[0]);
 }
 
 #[test]

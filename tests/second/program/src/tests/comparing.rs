@@ -4,6 +4,7 @@
 use std::collections::BTreeSet;
 
 use super::correction_flaws::CorrectionFlaw;
+use super::decoding_flaws::DecodingFlaw;
 use super::mending_flaws::MendingFlaw;
 use super::store_flaws::StoreFlaw;
 use crate::answer::Answer;
@@ -38,7 +39,7 @@ fn second_program_agrees_with_itself_and_meets_every_number() {
     }
     let table = stats.to_string();
     assert_eq!(table.lines().count(), 1 + Operation::CALLS.len() + 1);
-    assert!(table.ends_with("52500 cases"));
+    assert!(table.ends_with("54000 cases"));
 }
 
 #[test]
@@ -59,6 +60,7 @@ fn small_inputs_are_all_there() {
         Operation::CorrectionHeader,
         Operation::TakeProposal,
         Operation::ProposeOne,
+        Operation::Propose,
     ];
     for operation in Operation::CALLS {
         if operation.of_store() || of_correction_and_mending.contains(&operation) {
@@ -120,6 +122,8 @@ fn a_line_of_text_is_read_strictly() {
         "take_proposal format=0 proposed= received= out=",
         "propose_one format=0 received=",
         "propose_one format=1 received=0 out=",
+        "propose format=0 received=",
+        "propose format=2 received= out=",
     ] {
         assert!(Case::from_text(wrong).is_err(), "{wrong}");
     }
@@ -229,6 +233,7 @@ fn edges_of_the_outputs_are_met() {
         (Operation::CorrectionWrite, Some(0)),
         (Operation::CorrectionCheckBytes, Some(0)),
         (Operation::ProposeOne, Some(0)),
+        (Operation::Propose, Some(0)),
         (Operation::Receive, Some(4)),
         (Operation::ReceiveManchester, Some(4)),
         (Operation::Send, Some(0)),
@@ -346,6 +351,7 @@ pub enum Flaw {
     Correction(CorrectionFlaw),
     /// Wrong in a call of mending.
     Mending(MendingFlaw),
+    Decoding(DecodingFlaw),
 }
 
 /// The second program with one flaw. Its calls of the settings store stand in
@@ -743,7 +749,7 @@ fn every_field_of_every_row_is_compared() {
             }
         }
     }
-    assert_eq!(fields, 308);
+    assert_eq!(fields, 313);
 }
 
 #[test]

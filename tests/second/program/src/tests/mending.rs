@@ -7,31 +7,31 @@ use super::comparing::outcomes;
 use super::correction::{Division, ANNEX_C};
 use super::{bytes, content};
 use crate::answer::Refusal;
-use crate::case::{Case, Operation};
+use crate::case::{Case, Operation, Outcome};
 use crate::correction::{self, times};
 use crate::frames::{content_of, frame_of, Format, Sizes};
 use crate::mending::{is_code_word, propose_one, take, values_of};
 
 /// The contents whose frames have 223 bytes, the most that get check bytes.
-const LONGEST: [(Format, usize); 2] = [(Format::A, 196), (Format::B, 218)];
+pub const LONGEST: [(Format, usize); 2] = [(Format::A, 196), (Format::B, 218)];
 
-fn frame(format: Format, n: usize) -> Vec<u8> {
+pub fn frame(format: Format, n: usize) -> Vec<u8> {
     frame_of(format, &content(n)).unwrap()
 }
 
 /// A frame with its check bytes, which come from dividing.
-fn word_of(frame: &[u8]) -> Vec<u8> {
+pub fn word_of(frame: &[u8]) -> Vec<u8> {
     [frame, &Division::RIGHT.check_bytes(frame)].concat()
 }
 
 /// As it is received: the last 32 bytes behind a header.
-fn received(word: &[u8]) -> Vec<u8> {
+pub fn received(word: &[u8]) -> Vec<u8> {
     let (frame, check_bytes) = word.split_at(word.len() - 32);
     [frame, &[0x21, 0x04], check_bytes].concat()
 }
 
 /// The same word with other bytes in these places.
-fn wrong_at(word: &[u8], places: impl IntoIterator<Item = usize>) -> Vec<u8> {
+pub fn wrong_at(word: &[u8], places: impl IntoIterator<Item = usize>) -> Vec<u8> {
     let mut wrong = word.to_vec();
     for place in places {
         wrong[place] ^= 0x40;
@@ -452,14 +452,14 @@ fn a_mended_frame_is_read() {
 // ------------------------------------------------------------ in the other way
 
 /// The sizes of the frame that begins with this L, if there are any.
-fn sizes_by(case: &Case, name: &str) -> Option<Sizes> {
+pub fn sizes_by(case: &Case, name: &str) -> Option<Sizes> {
     let format = Format::ALL[case.number("format") as usize];
     let &length = case.bytes(name).first()?;
     format.sizes(length).ok()
 }
 
 /// What dividing a word leaves over, its check bytes added: zeros for a code word.
-fn left_over(word: &[u8]) -> Vec<u8> {
+pub fn left_over(word: &[u8]) -> Vec<u8> {
     let (frame, check_bytes) = word.split_at(word.len() - 32);
     let divided = Division::RIGHT.check_bytes(frame);
     let pairs = divided.iter().zip(check_bytes);
@@ -629,25 +629,53 @@ fn cases_of_proposals_meet_the_sizes() {
     }
 }
 
+/// The places in which an accepted proposal differs from what was received.
+pub fn mended_places(case: &Case, outcome: &Outcome) -> Vec<usize> {
+    let size = outcome.answer.row[0] as usize;
+    let mut word = case.bytes("received")[..size + 2].to_vec();
+    word.drain(size - 32..size - 30);
+    let places = 0..size;
+    places
+        .filter(|&place| outcome.lent[place] != word[place])
+        .collect()
+}
+
 /// Frames on each side of 223 bytes and the shortest: mended in the first and the
-/// last place that can be, with every room and every length about what is needed.
+/// last place that can be.
 #[test]
 fn cases_of_the_proposer_meet_the_edges() {
-    let mut met = BTreeSet::new();
+    let outcomes = outcomes(Operation::ProposeOne, 20_000);
+    meet_the_rooms(&outcomes);
     let mut mended = BTreeSet::new();
-    for (case, outcome) in outcomes(Operation::ProposeOne, 20_000) {
-        let (format, number) = (case.number("format"), outcome.answer.number);
-        let Some(Sizes { frame, .. }) = sizes_by(&case, "received") else {
-            continue;
-        };
-        let received = spare(&case, "received", frame, 34);
-        let room = spare(&case, "out", frame, 32);
-        met.insert((format, frame, number, received, room));
-        if number == 0 {
-            let mut word = case.bytes("received")[..frame + 34].to_vec();
-            word.drain(frame..frame + 2);
-            let place = (0..frame + 32).find(|&place| outcome.lent[place] != word[place]);
-            mended.insert((format, frame, place));
+    for (case, outcome) in outcomes {
+        if outcome.answer.number == 0 {
+            let frame = outcome.answer.row[0] as usize - 32;
+            let place = mended_places(&case, &outcome).first().copied();
+            mended.insert((case.number("format"), frame, place));
+        }
+    }
+    for (format, shortest) in [(0, 15), (1, 13)] {
+        for frame in [shortest, 223] {
+            for place in [1, frame - 1, frame, frame + 31] {
+                let has = mended.contains(&(format, frame, Some(place)));
+                assert!(has, "{frame} {place}");
+            }
+            assert!(mended.contains(&(format, frame, None)));
+            assert!(!mended.contains(&(format, frame, Some(0))));
+        }
+    }
+}
+
+/// Frames on each side of 223 bytes and the shortest came to a proposer with every room
+/// and every length about what is needed.
+pub fn meet_the_rooms(outcomes: &[(Case, Outcome)]) {
+    let mut met = BTreeSet::new();
+    for (case, outcome) in outcomes {
+        if let Some(Sizes { frame, .. }) = sizes_by(case, "received") {
+            let received = spare(case, "received", frame, 34);
+            let room = spare(case, "out", frame, 32);
+            let (format, number) = (case.number("format"), outcome.answer.number);
+            met.insert((format, frame, number, received, room));
         }
     }
     for (format, shortest) in [(0, 15), (1, 13)] {
@@ -670,14 +698,6 @@ fn cases_of_the_proposer_meet_the_edges() {
                 );
             }
             assert!(has(frame, 4, 0, -1));
-            for place in [1, frame - 1, frame, frame + 31] {
-                assert!(
-                    mended.contains(&(format, frame, Some(place))),
-                    "{frame} {place}"
-                );
-            }
-            assert!(mended.contains(&(format, frame, None)));
-            assert!(!mended.contains(&(format, frame, Some(0))));
         }
         for received in -3..=2 {
             assert!((-3..=2).any(|room| has(224, 23, received, room)));

@@ -3,6 +3,7 @@
 
 use super::comparing::{Broken, Flaw, COUNT, SEED};
 use super::correction::Division;
+use super::decoding_flaws;
 use crate::answer::{Answer, Refusal};
 use crate::case::{Case, Operation};
 use crate::compare::{compare, compare_cases};
@@ -135,19 +136,19 @@ fn refuse(refusal: Refusal) -> Answer {
 }
 
 /// The size of the frame that begins with this L, if L is allowed.
-fn size_by(format: Format, bytes: &[u8]) -> Option<usize> {
+pub fn size_by(format: Format, bytes: &[u8]) -> Option<usize> {
     let sizes = format.sizes(*bytes.first()?).ok()?;
     Some(sizes.frame)
 }
 
 /// Where two differ.
-fn places_that_differ(one: &[u8], other: &[u8]) -> Vec<usize> {
+pub fn places_that_differ(one: &[u8], other: &[u8]) -> Vec<usize> {
     let places = 0..one.len().min(other.len());
     places.filter(|&place| one[place] != other[place]).collect()
 }
 
 /// The same bytes without the two of the header.
-fn without_header(received: &[u8], frame: usize) -> Vec<u8> {
+pub fn without_header(received: &[u8], frame: usize) -> Vec<u8> {
     [&received[..frame], &received[frame + 2..]].concat()
 }
 
@@ -324,10 +325,14 @@ fn judged_wrongly(
 
 // ------------------------------------------------------------------- proposing
 
+/// One of the two proposers, its format chosen: what is right, before a flaw spoils it.
+pub type Proposer<'a> = &'a dyn Fn(&[u8], &mut [u8]) -> Answer;
+
 /// A wrong refusal, or a wrong acceptance of what ends too early.
 fn refused_wrongly(
     flaw: MendingFlaw,
     format: Format,
+    right: Proposer,
     received: &[u8],
     out: &mut [u8],
 ) -> Option<Answer> {
@@ -342,7 +347,7 @@ fn refused_wrongly(
         MendingFlaw::RoomBeforeTheEnd if too_small => Refusal::OutputTooSmall,
         MendingFlaw::ProposesWithoutHeader if (1..=2).contains(&missing) && !too_small => {
             let longer = [received, &[0; 2][..missing]].concat();
-            return Some(Second.propose_one(format, &longer, out));
+            return Some(right(&longer, out));
         }
         MendingFlaw::WritesWhatIsThere if missing > 0 => {
             let fits = received.len().min(out.len());
@@ -355,7 +360,7 @@ fn refused_wrongly(
         MendingFlaw::ProposesCheckBytesAtTheEnd if missing == 0 => {
             let front = &received[..frame + 2];
             let end = &received[received.len() - 32..];
-            return Some(Second.propose_one(format, &[front, end].concat(), out));
+            return Some(right(&[front, end].concat(), out));
         }
         _ => return None,
     };
@@ -430,6 +435,58 @@ fn leaves(flaw: MendingFlaw, format: Format, place: usize, word: &[u8], mended: 
     }
 }
 
+/// What a flaw makes of a proposer.
+pub fn propose_wrongly(
+    flaw: MendingFlaw,
+    format: Format,
+    right: Proposer,
+    received: &[u8],
+    out: &mut [u8],
+) -> Answer {
+    if let Some(wrong) = refused_wrongly(flaw, format, right, received, out) {
+        return wrong;
+    }
+    let before = out.to_vec();
+    let mut answer = right(received, out);
+    if flaw == MendingFlaw::WritesWhatFits && answer.number == 4 {
+        out.copy_from_slice(&received[..out.len()]);
+    }
+    if answer.number != 0 {
+        return answer;
+    }
+    let size = answer.row[0] as usize;
+    let frame = size - 32;
+    let word = without_header(&received[..size + 2], frame);
+    if let Some(&place) = places_that_differ(&word, out).first() {
+        if leaves(flaw, format, place, &word, out) {
+            out[..size].copy_from_slice(&word);
+        }
+    } else if !is_code_word(&word) {
+        if let Some(mended) = mended_wrongly(flaw, &word) {
+            out[..size].copy_from_slice(&mended);
+        }
+        match flaw {
+            MendingFlaw::NothingElse => out.copy_from_slice(&before),
+            MendingFlaw::RefusesElse => {
+                out.copy_from_slice(&before);
+                return refuse(Refusal::NotOfTheCode);
+            }
+            _ => {}
+        }
+    }
+    match flaw {
+        MendingFlaw::HeaderProposed if out.len() >= size + 2 => {
+            out[frame..size + 2].rotate_right(2);
+            out[frame..frame + 2].copy_from_slice(&received[frame..frame + 2]);
+            answer.row[0] += 2;
+        }
+        MendingFlaw::ClearsBehind => out[size..].iter_mut().take(1).for_each(|byte| *byte = 0),
+        MendingFlaw::TellsTheFrame => answer.row[0] = frame as u64,
+        _ => {}
+    }
+    answer
+}
+
 impl MendingCalls for Broken {
     fn take_proposal(&self, format: Format, proposed: &[u8], received: &[u8]) -> Answer {
         let right = || Second.take_proposal(format, proposed, received);
@@ -442,51 +499,18 @@ impl MendingCalls for Broken {
     }
 
     fn propose_one(&self, format: Format, received: &[u8], out: &mut [u8]) -> Answer {
-        let Flaw::Mending(flaw) = self.0 else {
-            return Second.propose_one(format, received, out);
-        };
-        if let Some(wrong) = refused_wrongly(flaw, format, received, out) {
-            return wrong;
+        let right = |received: &[u8], out: &mut [u8]| Second.propose_one(format, received, out);
+        match self.0 {
+            Flaw::Mending(flaw) => propose_wrongly(flaw, format, &right, received, out),
+            _ => right(received, out),
         }
-        let before = out.to_vec();
-        let mut answer = Second.propose_one(format, received, out);
-        if flaw == MendingFlaw::WritesWhatFits && answer.number == 4 {
-            out.copy_from_slice(&received[..out.len()]);
+    }
+
+    fn propose(&self, format: Format, received: &[u8], out: &mut [u8]) -> Answer {
+        match self.0 {
+            Flaw::Decoding(flaw) => decoding_flaws::propose_wrongly(flaw, format, received, out),
+            _ => Second.propose(format, received, out),
         }
-        if answer.number != 0 {
-            return answer;
-        }
-        let size = answer.row[0] as usize;
-        let frame = size - 32;
-        let word = without_header(&received[..size + 2], frame);
-        if let Some(&place) = places_that_differ(&word, out).first() {
-            if leaves(flaw, format, place, &word, out) {
-                out[..size].copy_from_slice(&word);
-            }
-        } else if !is_code_word(&word) {
-            if let Some(mended) = mended_wrongly(flaw, &word) {
-                out[..size].copy_from_slice(&mended);
-            }
-            match flaw {
-                MendingFlaw::NothingElse => out.copy_from_slice(&before),
-                MendingFlaw::RefusesElse => {
-                    out.copy_from_slice(&before);
-                    return refuse(Refusal::NotOfTheCode);
-                }
-                _ => {}
-            }
-        }
-        match flaw {
-            MendingFlaw::HeaderProposed if out.len() >= size + 2 => {
-                out[frame..size + 2].rotate_right(2);
-                out[frame..frame + 2].copy_from_slice(&received[frame..frame + 2]);
-                answer.row[0] += 2;
-            }
-            MendingFlaw::ClearsBehind => out[size..].iter_mut().take(1).for_each(|byte| *byte = 0),
-            MendingFlaw::TellsTheFrame => answer.row[0] = frame as u64,
-            _ => {}
-        }
-        answer
     }
 }
 

@@ -5,6 +5,8 @@ mod answers;
 mod comparing;
 mod correction;
 mod correction_flaws;
+mod decoding;
+mod decoding_flaws;
 mod edges;
 mod hidden;
 mod mending;

@@ -1,0 +1,2 @@
+pub mod ReduceLaws
+pub mod SearchLaws

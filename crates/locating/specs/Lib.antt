@@ -1,0 +1,2 @@
+pub mod Locates
+pub mod Inner

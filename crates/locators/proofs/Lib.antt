@@ -1,0 +1,4 @@
+pub mod OverLaws
+pub mod CombineLaws
+pub mod QuotientLaws
+pub mod LocatorLaws

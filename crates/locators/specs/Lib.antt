@@ -1,0 +1,2 @@
+pub mod Combinations
+pub mod Inner
