@@ -1,6 +1,7 @@
 /* Kusikhut: the proved wireless M-Bus link layer (EN 13757-4:2019) for C.
  *
- * Link with libkusikhut.a, which `tools/library` writes to target/staticlib/ for the machine that it runs on.
+ * Link with libkusikhut.a: installed, `pkg-config --cflags --libs kusikhut` tells how; in the sources, `tools/build`
+ * writes it to target/staticlib/ for the machine that it runs on. examples/collector.c of the sources is a first program.
  *
  * What a caller must see to, and nothing else:
  *  - Every pointer is valid for its length and not NULL, also where the length is 0.
@@ -21,7 +22,8 @@
  *   20 meter unsure                   21 session numbers used up      22 store full
  *   23 over 223 bytes, too long for correction bytes                24 correction header announces another code
  *   25 proposed word is no code word of the correction bytes        26 proposed word differs in over 16 bytes
- * The numbers with each function below stand in the order in which they are judged; docs/ANSWERS.md says more of them.
+ * The numbers with each function below stand in the order in which they are judged; docs/RULES.md of the sources says
+ * more of them.
  * A refusal (any number but 0) changes no byte of `out`, `frame` or `store`. `results` is always written whole: the
  * values named below in this order, zero where the answer has no such value. A refusal shows at most one value, so the
  * sum of its results is that value.
@@ -85,7 +87,7 @@ uint8_t kusikhut_read_b(const uint8_t *bytes, size_t bytes_len, uint8_t *out, si
 uint8_t kusikhut_write_a(const uint8_t *content, size_t content_len, uint8_t *out, size_t out_len, uint64_t results[1]);
 uint8_t kusikhut_write_b(const uint8_t *content, size_t content_len, uint8_t *out, size_t out_len, uint64_t results[1]);
 
-/* Changing the content byte at `place` in the frame itself: 0, or the frame's 1, 2, 3, then 9.
+/* Changing the content byte at `place` in the frame itself: 0, or the frame's 1 (empty), 2, 1, 3, then 9.
  * results: frame size, content length, and for 3 the first wrong block. Only that byte and the two check bytes over it
  * change. */
 uint8_t kusikhut_change_a(uint8_t *frame, size_t frame_len, size_t place, uint8_t byte, uint64_t results[3]);

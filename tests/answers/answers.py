@@ -1,5 +1,5 @@
 #!/usr/bin/env python3
-"""docs/ANSWERS.md and `Refusal` of crates/answers name the same answers: number, case and value's name.
+"""docs/RULES.md and `Refusal` of crates/answers name the same answers: number, case and value's name.
 
 The page is what the Rust wrapper takes its words from. Every case of specs/Refusals.antt has exactly one row, and every row
 but that of 0, acceptance, its case. Prints each difference, and exits with 1 if there is one; with `self-test` it plants
@@ -9,7 +9,7 @@ import re
 import sys
 from pathlib import Path
 
-PAGE = Path("docs/ANSWERS.md")
+PAGE = Path("docs/RULES.md")
 SOURCE = Path("crates/answers/specs/Refusals.antt")
 ROW = re.compile(r"\| *(\d+) *\| *`([a-z-]+)` *\| *(?:`(\w+)`)? *\| *(?:`(\w+)`)? *\| *\S")
 NUMBER = re.compile(r"^numberOf \(?(\w+)(?: \w+)?\)? = (\d+)$", re.M)
@@ -17,7 +17,7 @@ VALUE = re.compile(r"^valueOf \(?(\w+)(?: \w+)?\)? = (\w+)$", re.M)
 
 
 def on_the_page(text):
-    """The rows of the first table as (number, case, value's name), the names empty where there are none; and the words."""
+    """The rows of the numbers as (number, case, value's name), the names empty where there are none; and the words."""
     rows = [match.groups() for line in text.splitlines() if (match := ROW.match(line))]
     return [(int(number), case or "", value or "") for number, _, case, value in rows], [row[1] for row in rows]
 

@@ -5,9 +5,9 @@
 
 Proofs are the checker's business; definitions are the reader's. This starts from the page of demands
 (crates/demands/specs/Demands.antt: the fields of its records), follows every name to
-where it is defined, and goes on from there until nothing new is met. It does the same from the page of the calls that
-are lent no memory (Unlent.antt beside it), from the starred table (Starred.antt, both sides of it) and from the
-contracts of all public functions (`pub fn` of crates/*/src: signature, `requires`, `ensures`). Counted are
+where it is defined, and goes on from there until nothing new is met. It does the same from the starred table
+(Starred.antt, both sides of it) and from the contracts of all public functions (`pub fn` of crates/*/src: signature,
+`requires`, `ensures`). Counted are
 
   definitions          functions, records and data types of the antt files, crates/*/specs/*.antt
   enums and structs    those of crates/*/src that are met on the way
@@ -21,7 +21,8 @@ It fails where
     only contracts of inner functions reach: nobody has to believe them;
   - a definition of an Inner.antt is reached from any of them;
   - a name of the project cannot be followed, or is a definition and a variable of the same text;
-  - docs/BELIEVED.md does not have the figures that are counted.
+  - docs/BELIEVED.md does not have the figures that are counted, or the files to read for frames in their order, or
+    README.md not the sum of those.
 --list prints what is reached and what names it, --write puts the figures into docs/BELIEVED.md. can_fail.py plants each
 fault.
 """
@@ -31,7 +32,9 @@ from collections import namedtuple
 from pathlib import Path
 
 DEMANDS, STARRED = "crates/demands/specs/Demands.antt", "crates/demands/proofs/Starred.antt"
-PUBLISHED = Path("docs/BELIEVED.md")
+PUBLISHED, README = Path("docs/BELIEVED.md"), Path("README.md")
+# What is promised of a frame: demand 2 in bytes and chips, and demand 3.
+OF_FRAMES = ("InBytes", "InChips", "Changes")
 MARKS = r"(?:(?:abbrev|unfoldable|pub|opaque) )*"
 SIGNATURE = re.compile(rf"^{MARKS}([^\s(){{}};,.]+)\s*:(?:\s|$)")
 TYPE = re.compile(rf"^{MARKS}(?:record|data) ([^\s(){{}}]+)")
@@ -227,6 +230,42 @@ def table(rows):
     ]
 
 
+def reading_order(house, keys):
+    """The files that have these definitions, and in how many lines: each behind those whose definitions it names, and
+    the lowest crate first."""
+    crates = [line.split(":")[0] for line in Path("crates.txt").read_text(encoding="utf-8").splitlines()]
+    lines, named = {}, {}
+    for key in keys:
+        item = house.defined[key]
+        lines[item.path] = lines.get(item.path, 0) + len(item.text)
+        named.setdefault(item.path, set()).update(house.defined[k].path for k in house.names(item) if k in keys)
+    order = []
+
+    def visit(paths, above=()):
+        for path in sorted(paths, key=lambda path: (crates.index(path.split("/")[1]), path)):
+            if path not in order and path not in above:
+                visit(named[path], (*above, path))
+                order.append(path)
+
+    visit(lines)
+    return [(path, lines[path]) for path in order]
+
+
+def order_table(order):
+    return ["| File | lines |", "|---|---|"] + [f"| [{path}](../{path}) | {lines} |" for path, lines in order]
+
+
+def with_tables(page, tables):
+    """The page's lines with its tables replaced, the first by the first and so on."""
+    lines, tables = [], iter(tables)
+    for before, line in zip([""] + page, page):
+        if not line.startswith("|"):
+            lines.append(line)
+        elif not before.startswith("|"):
+            lines += next(tables)
+    return lines
+
+
 def main(arguments):
     house = House()
     demands = house.reached(statements(DEMANDS))
@@ -258,13 +297,16 @@ def main(arguments):
     if "--list" in arguments:
         for key, by in sorted(believed.items()):
             print(f"{house.defined[key].path}: {key[1]}, named by {by.path}: {by.name}")
+    order = reading_order(house, {key for item in records if item.name in OF_FRAMES for key in house.reached([item])})
+    tables = [rows, order_table(order)]
     published = PUBLISHED.read_text(encoding="utf-8").splitlines()
     if "--write" in arguments:
-        first = next(no for no, line in enumerate(published) if line.startswith("|"))
-        rest = [line for line in published if not line.startswith("|")]
-        published = rest[:first] + rows + rest[first:]
+        published = with_tables(published, tables)
         PUBLISHED.write_text("\n".join(published) + "\n", encoding="utf-8")
-    faults += [f"{PUBLISHED} lacks the line: {row}" for row in rows if row not in published]
+    faults += [f"{PUBLISHED} lacks the line: {row}" for rows in tables for row in rows if row not in published]
+    of_frames = f"{sum(lines for _, lines in order)} lines of definitions in {len(order)} files"
+    if of_frames not in " ".join(README.read_text(encoding="utf-8").split()):
+        faults.append(f"{README} does not say {of_frames}")
     for fault in faults:
         print(fault)
     definitions, lines, files = house.figures(demands)[:3]

@@ -2,11 +2,11 @@
 -- proofs/Demands, one for each record.
 --
 -- How to read it: each public function is proved to answer what its definition in a crate's specs/ says, for every
--- input, and no entry point asks anything of its caller. In demand 1, above a field, behind `by`, stand the functions
--- whose contract is an equation with the definition that the field speaks of; for those that C calls, with that
--- definition told as a number and a row (kusikhut/specs/Told, Calls). In the crate `entry` calls stand under the page's
--- own words. The definitions are functions of all lists and numbers, so every input has one answer, and what is said
--- of a definition here holds of every run of the function; docs/SETTLED.md says what that rests on.
+-- input, and no entry point relies on its caller. In demand 1 the comment `by` above a field lists the functions whose
+-- contract is an equation with the definition that the field speaks of; for those that C calls, with that definition
+-- told as a number and a row (kusikhut/specs/Told, Calls). In the crate `entry` calls have the page's own words as
+-- contracts. The definitions are functions of all lists and numbers, so every input has one answer, and what is said
+-- here of a definition holds for every run of the function; docs/SETTLED.md says what that rests on.
 use mathlib.Core.Bool.{true, false, cond}
 use mathlib.Core.List.{List, [], _∷_, _++_, map}
 use mathlib.Core.Logic.{_↔_, _⊎_}
@@ -330,9 +330,9 @@ pub record Plain : Type 0 where
   pub widths :
       (codeOf Code.Nrz .chips ≡ 8) × ((codeOf Code.ThreeOfSix .chips ≡ 6) × (codeOf Code.Manchester .chips ≡ 2))
 
--- What a caller in C is told: a number, and a row of results, which is written whole at every call. Accepted, the
--- number is 0 and the row has the sizes and values; refused, all results are zero but the one that 01 names for this
--- refusal. So a refusal rewrites the row, and no byte of the buffer that was lent for the output.
+-- What a caller in C is told: a number, and a row of results, which is written whole at every call. If the call is
+-- accepted, the number is 0 and the row has the sizes and values; if it is refused, all results are zero except the one
+-- that 01 names for this refusal. So a refusal rewrites the row, but no byte of the buffer lent for the output.
 pub record AcceptedRows : Type 0 where
   pub updating-a-check : (c : ℕ) → toldUpdated (Updated.Accepted c) ≡ told 0 (c ∷ [])
   pub decoding : toldDecoded Decoded.Accepted ≡ told 0 (0 ∷ [])
@@ -382,7 +382,7 @@ pub record RefusedRows : Type 1 where
   pub lent-memory : {A : Type 0} (f : A → Told ℕ) (o : Outcome A) → tells f o .memory ≡ o .memory
 
 -- The rows of the settings store: a number that was issued or asked for, and what is held of a meter, its mode and
--- format by their numbers. All other calls on it tell its size, as `writing` above.
+-- format by their numbers. All other calls on the store tell its size, as `writing` above.
 pub record StoreRows : Type 0 where
   pub a-number : (n : ℕ) → toldValue (Value.Accepted n) ≡ told 0 (n ∷ [])
   pub no-number : (r : Refusal) → toldValue (Value.Refused r) ≡ told (numberOf r) (valueOf r ∷ [])
@@ -397,8 +397,8 @@ pub record StoreRows : Type 0 where
   pub marks : map markOf (false ∷ true ∷ []) ≡ 0 ∷ 1 ∷ []
 
 -- Demand 2, the line codes by themselves: decoding what was encoded gives back the bytes, encoding what was decoded the
--- chips. Nothing that is no code word is ever decoded: `decoding` above. An output may be longer than a received buffer
--- may be, so the first m of its bytes are decoded, those that were written among them.
+-- chips. Only code words are ever decoded: `decoding` above. An output may be longer than a received buffer may be, so
+-- the first m of its bytes are decoded, those that were written among them.
 pub record InCodes : Type 0 where
   pub encoded-then-decoded :
       (code : Code) (b buf d : List ℕ) (z m : ℕ) → Bytes b → encoded (codeOf code) b buf .answer ≡ Written.Accepted z
@@ -545,10 +545,10 @@ pub record StorePromise : Type 0 where
 
 -- Document 02, 11/14, correction bytes. Of the y bytes that were written to m the last 32 make the first y - 34, which
 -- are the frame (`writing-a-correction`), a code word by the generator's roots. Every word has such 32 bytes, and no
--- other 32. Zero fill before a block makes no code word of it and unmakes none, and a word's check bytes stay the same.
+-- other 32. Zero fill before a block neither makes nor unmakes a code word, and a word's check bytes stay the same.
 -- Of all code words of one length at most one differs from what was received at 16 places or fewer. The header that was
--- written announces them; of what a header announces a caller in C is told the number alone. A frame with its
--- correction behind it is read as before.
+-- written announces the check bytes; of what a header announces a caller in C is told the number alone. A frame with
+-- its correction behind it is read as before.
 pub record CorrectionPromise : Type 0 where
   pub written-words :
       (f : Format) (s d : List ℕ) (y : ℕ) → Bytes s → correctingOf f s d .answer ≡ Written.Accepted y
@@ -572,17 +572,17 @@ pub record CorrectionPromise : Type 0 where
 -- Document 02, 12/14, mending. A proposal is taken with d exactly where it is a code word of 11/14 and differs from the
 -- received word in d bytes, d at most 16 (`TakenWith`, in numbers). A taken frame is whole: its block checks are right,
 -- or reading says 3. The proposer (`proposing-for-one-byte`: what it proposes is `Nearest 1`) mends every single wrong
--- byte of frame or check bytes but the length byte, leaves a code word alone, and proposes the received word else; the
--- length byte always stays.
+-- byte of frame or check bytes except the length byte, leaves a code word alone, and otherwise proposes the received
+-- word; the length byte always stays.
 --
--- End to end: take an accepted frame of at most 223 bytes, write its correction bytes, change any one byte behind the
--- length byte to any other, header bytes too. What is proposed is the word that was written, it is taken, with one
--- differing byte at most, and reading its frame gives the content again.
+-- End to end: take an accepted frame of at most 223 bytes, write its correction bytes, and change any one byte behind
+-- the length byte, even one of the header, to any other. What is proposed is the word that was written, it is taken,
+-- with one differing byte at most, and reading its frame gives the content again.
 --
--- A taken proposal is the right one: of one length byte no two words are taken for one reception. Where at most 16
--- bytes came wrong, those of the header not counted, the word that was written is taken, and no other with its length
--- byte is. Across lengths that is not so: one wrong bit of a length byte can leave another frame, whose word is taken
--- too.
+-- A taken proposal is the right one: no two words with the same length byte are taken for one reception. Where at most
+-- 16 bytes came wrong, not counting those of the header, the word that was written is taken, and no other with its
+-- length byte. For different lengths that is not so: one wrong bit of a length byte can leave another frame, whose word
+-- is taken too.
 pub record MendingPromise : Type 0 where
   pub taken-exactly :
       (f : Format) (p s : List ℕ) (d : ℕ) → Bytes p
@@ -630,16 +630,16 @@ pub record MendingPromise : Type 0 where
       × ((proposalOf Format.B q s ≡ Proposal.Taken 0) × (judgeOf Format.B q ≡ Frame.Accepted 13 10))))))
 
 -- The whole strength of the correction bytes. The proposer for sixteen bytes (`proposing-for-sixteen-bytes`: what it
--- proposes is `Nearest 16`) mends every up to sixteen wrong bytes of frame and check bytes behind the length byte, and
--- proposes the received word where no code word is near (`MendsSixteen`, in words).
+-- proposes is `Nearest 16`) mends up to sixteen wrong bytes of frame and check bytes, wherever they stand behind the
+-- length byte, and proposes the received word where no code word is near (`MendsSixteen`, in words).
 --
--- End to end: take an accepted frame of at most 223 bytes and write its correction bytes. Let any up to sixteen bytes
--- of frame and check bytes behind the length byte change, header bytes as many as you like, and anything stand behind
--- them. What is proposed is the word that was written, it is taken, with as many differing bytes as changed, and
+-- End to end: take an accepted frame of at most 223 bytes and write its correction bytes. Let up to sixteen bytes of
+-- frame and check bytes change, anywhere behind the length byte, and any number of header bytes, and let anything
+-- follow. What is proposed is the word that was written, it is taken, with as many differing bytes as changed, and
 -- reading its frame gives the content again.
 --
 -- Beyond sixteen: whatever was received, what is proposed is taken, with at most 16 differing bytes, or it is refused
--- with 25. What is taken then need not be what was sent: of `seventeen` a frame came with 17 wrong bytes, and another
+-- with 25. What is taken then need not be what was sent: in `seventeen` a frame came with 17 wrong bytes, and another
 -- frame is proposed, taken with 16, and read.
 pub record SixteenPromise : Type 0 where
   pub words : MendsSixteen

@@ -40,9 +40,9 @@ fn proposing_for_sixteen_bytes(f: Format, s: &[u8], d: &mut [u8]) -> Written
 
 // A frame is sent with its correction bytes, one byte behind the length byte comes wrong, a proposal is made for what
 // was received, judged, and read. That is just what reading the frame itself gives, whatever frame, place and byte
-// (document 02, 12/14, end to end). `sent` and `proposal` are memory to work in. What is refused correction bytes is
-// read as it is, and so it is where the place is the length byte's or lies behind what was written, or where a proposal
-// has no room.
+// (document 02, 12/14, end to end). `sent` and `proposal` are memory to work in. A frame that is refused correction
+// bytes is read as it is; so is one where the place is the length byte's or lies behind what was written, or where a
+// proposal has no room.
 fn through_a_cellar(
     f: Format,
     s: &[u8],

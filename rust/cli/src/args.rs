@@ -1,165 +1,216 @@
-//! The words of a command line: those in order, and the options `name=value`. Each fault says which word is wrong and why.
+//! The words of a command: those in order, and the options `name=value`. Each fault names the argument, what was there and
+//! what belongs there.
+use crate::fault::Fault;
+use crate::notation::{self, counted, digits_in, shortened};
+use crate::reply::Fields;
+use crate::words::Word;
 use std::path::Path;
 
 pub struct Args<'a> {
-    words: Vec<(usize, &'a str)>,
+    words: Vec<Word<'a>>,
     options: Vec<(usize, &'a str, &'a str)>,
+    taken: Vec<&'a str>,
     next: usize,
     last: usize,
+    had_bytes: bool,
 }
 
-/// Bytes lent to a call: how many, and what each holds before it.
+/// Memory lent to a call, and how much of it the line wants to see.
 pub struct Lent {
     pub bytes: Vec<u8>,
-    pub fill: u8,
+    sized: bool,
+    shown: bool,
 }
 
-/// The most that a command lends, so that a wish for all of memory is a fault and no crash.
-const MOST_LENT: usize = 65_536;
+/// The most that a command lends, so that a wish for all of memory is a fault and no crash: two bytes of chips for each
+/// byte of the longest argument.
+pub const MOST_LENT: usize = 131_072;
+
+impl Lent {
+    /// The result at the start of the memory under its own name, whole, and how many bytes are left if `room` was given.
+    pub fn result(&self, fields: Fields, name: &'static str, size: u64) -> Fields {
+        let fields = fields.bytes(name, &self.bytes[..size as usize]);
+        if self.sized { fields.number("left", self.bytes.len() as u64 - size) } else { fields }
+    }
+
+    /// All of the memory after the call, if the line asked for it.
+    pub fn all(&self, fields: Fields) -> Fields {
+        if self.shown { fields.bytes("lent", &self.bytes) } else { fields }
+    }
+
+    pub fn room(&self) -> u64 {
+        self.bytes.len() as u64
+    }
+}
 
 impl<'a> Args<'a> {
-    /// The words of a line behind the command's name, which is word 1.
-    pub fn of(line: &'a str) -> Args<'a> {
-        let mut args = Args { words: vec![], options: vec![], next: 0, last: 1 };
-        for (at, word) in line.split_ascii_whitespace().enumerate().skip(1) {
-            args.last = at + 1;
-            match word.split_once('=') {
-                Some((name, value)) => args.options.push((at + 1, name, value)),
-                None => args.words.push((at + 1, word)),
+    /// The words behind the command's name, which is word 1.
+    pub fn of(words: &[Word<'a>]) -> Args<'a> {
+        let (words_only, last) = (Vec::with_capacity(words.len()), words.len());
+        let mut args = Args { words: words_only, options: Vec::new(), taken: Vec::new(), next: 0, last, had_bytes: false };
+        for word in words.iter().skip(1) {
+            match word.text.split_once('=') {
+                Some((name, value)) => args.options.push((word.at, name, value)),
+                None => args.words.push(*word),
             }
         }
         args
     }
 
-    /// Arguments behind the first one, none of them an option: what they name may have any characters.
-    pub fn plain(arguments: &'a [String]) -> Args<'a> {
-        let words = arguments.iter().enumerate().skip(1).map(|(at, word)| (at + 1, word.as_str())).collect();
-        Args { words, options: vec![], next: 0, last: arguments.len() }
+    /// The same, none of them an option: what they name may have any characters.
+    pub fn plain(words: &[Word<'a>]) -> Args<'a> {
+        let plain = words.iter().skip(1).copied().collect();
+        Args { words: plain, options: Vec::new(), taken: Vec::new(), next: 0, last: words.len(), had_bytes: false }
     }
 
-    pub fn word(&mut self, what: &str) -> Result<(usize, &'a str), String> {
+    pub fn word(&mut self, what: &str) -> Result<Word<'a>, Fault> {
         let word = self.words.get(self.next).copied();
         self.next += 1;
-        word.ok_or_else(|| format!("word {}: {what} is missing", self.last + 1))
+        word.ok_or_else(|| Fault::of_word(self.last + 1, format!("{what} is missing")))
     }
 
-    pub fn bytes(&mut self, what: &str) -> Result<Vec<u8>, String> {
-        let (at, word) = self.word(what)?;
-        hex(word).map_err(|why| format!("word {at}: {what} {why}"))
+    /// Bytes in one word.
+    pub fn bytes(&mut self, what: &str) -> Result<Vec<u8>, Fault> {
+        let word = self.word(what)?;
+        self.had_bytes = true;
+        read_bytes(word, what)
+    }
+
+    /// Bytes in all the words that are left: where bytes come last, spaces between them need no quotation marks.
+    pub fn last_bytes(&mut self, what: &str) -> Result<Vec<u8>, Fault> {
+        let mut all = self.bytes(what)?;
+        while self.more() {
+            let word = self.word(what)?;
+            all.append(&mut read_bytes(word, what)?);
+            notation::within_limit(all.len() as u64).map_err(|why| Fault::of_word(word.at, format!("{what} {why}")))?;
+        }
+        Ok(all)
     }
 
     /// `N` bytes, written as exactly twice as many hex digits.
-    pub fn fixed<const N: usize>(&mut self, what: &str) -> Result<[u8; N], String> {
-        let (at, word) = self.word(what)?;
-        let bytes = hex(word).map_err(|why| format!("word {at}: {what} {why}"))?;
-        bytes.try_into().map_err(|_| format!("word {at}: {what} is {} hex digits", 2 * N))
+    pub fn fixed<const N: usize>(&mut self, what: &str) -> Result<[u8; N], Fault> {
+        let word = self.word(what)?;
+        self.had_bytes = true;
+        read_fixed(word.at, word.text, what)
     }
 
-    pub fn byte(&mut self, what: &str) -> Result<u8, String> {
+    pub fn byte(&mut self, what: &str) -> Result<u8, Fault> {
         Ok(self.fixed::<1>(what)?[0])
     }
 
-    pub fn number(&mut self, what: &str) -> Result<usize, String> {
-        let (at, word) = self.word(what)?;
-        decimal(word).map_err(|why| format!("word {at}: {what} {why}"))
+    pub fn number(&mut self, what: &str) -> Result<usize, Fault> {
+        let word = self.word(what)?;
+        read_number(word.at, word.text, what)
     }
 
-    /// A number of four bytes.
-    pub fn short_number(&mut self, what: &str) -> Result<u32, String> {
-        let (at, word) = self.word(what)?;
-        let number = decimal(word).map_err(|why| format!("word {at}: {what} {why}"))?;
-        number.try_into().map_err(|_| format!("word {at}: {what} is at most {}", u32::MAX))
+    /// A number that is at most `most`.
+    pub fn number_to(&mut self, what: &str, most: usize) -> Result<usize, Fault> {
+        let word = self.word(what)?;
+        limited(word.at, word.text, what, most)
     }
 
     /// A file's name. One that is no text was changed on its way here, and would be another file's.
-    pub fn path(&mut self, what: &str) -> Result<&'a Path, String> {
-        let (at, word) = self.word(what)?;
-        if word.contains(char::REPLACEMENT_CHARACTER) {
-            return Err(format!("word {at}: {what} is no UTF-8 text"));
+    pub fn path(&mut self, what: &str) -> Result<&'a Path, Fault> {
+        let word = self.word(what)?;
+        if word.text.contains(char::REPLACEMENT_CHARACTER) {
+            return Err(Fault::of_word(word.at, format!("{what} is no UTF-8 text")));
         }
-        Ok(Path::new(word))
+        Ok(Path::new(word.text))
     }
 
-    pub fn choice<T: Copy>(&mut self, what: &str, from: &[(&str, T)]) -> Result<T, String> {
-        let (at, word) = self.word(what)?;
-        from.iter().find(|(name, _)| name.eq_ignore_ascii_case(word)).map(|&(_, value)| value).ok_or_else(|| {
+    pub fn choice<T: Copy>(&mut self, what: &str, from: &[(&str, T)]) -> Result<T, Fault> {
+        let word = self.word(what)?;
+        from.iter().find(|(name, _)| name.eq_ignore_ascii_case(word.text)).map(|&(_, value)| value).ok_or_else(|| {
             let names: Vec<&str> = from.iter().map(|&(name, _)| name).collect();
-            format!("word {at}: {what} is one of {}", names.join(", "))
+            Fault::of_word(word.at, format!("{what} is {} and must be one of {}", shortened(word.text), names.join(", ")))
         })
     }
 
-    /// The words that are left, as long as there are some.
+    /// Whether words are left.
     pub fn more(&self) -> bool {
         self.next < self.words.len()
     }
 
+    /// An option's word and text, where it is given.
+    pub fn option(&mut self, name: &str) -> Option<(usize, &'a str)> {
+        let place = self.options.iter().position(|&(_, given, _)| given == name)?;
+        let (at, name, value) = self.options.remove(place);
+        self.taken.push(name);
+        Some((at, value))
+    }
+
     /// An option's number, or what it means to leave it out.
-    pub fn option(&mut self, name: &str, otherwise: usize) -> Result<usize, String> {
-        match self.options.iter().position(|&(_, given, _)| given == name) {
-            None => Ok(otherwise),
-            Some(i) => {
-                let (at, _, value) = self.options.remove(i);
-                decimal(value).map_err(|why| format!("word {at}: {name} {why}"))
-            }
-        }
+    pub fn option_number(&mut self, name: &str, otherwise: usize) -> Result<usize, Fault> {
+        self.option(name).map_or(Ok(otherwise), |(at, text)| read_number(at, text, name))
     }
 
-    /// Which word an option is, for whoever finds fault with it.
-    pub fn option_place(&self, name: &str) -> usize {
-        self.options.iter().find(|&&(_, given, _)| given == name).map_or(self.last, |&(at, _, _)| at)
+    /// An option's bytes, where it is given.
+    pub fn option_fixed<const N: usize>(&mut self, name: &str) -> Result<Option<[u8; N]>, Fault> {
+        self.option(name).map(|(at, text)| read_fixed(at, text, name)).transpose()
     }
 
-    /// The memory that `room` and `fill` ask to be lent; without `room`, as many bytes as `otherwise`.
-    pub fn lent(&mut self, otherwise: usize) -> Result<Lent, String> {
-        let at = self.option_place("room");
-        let room = self.option("room", otherwise.min(MOST_LENT))?;
-        if room > MOST_LENT {
-            return Err(format!("word {at}: room is at most {MOST_LENT} here"));
+    /// The memory that `room`, `fill` and `show` ask to be lent; without `room`, as many bytes as `otherwise`.
+    pub fn lent(&mut self, otherwise: usize) -> Result<Lent, Fault> {
+        let room = self.option("room");
+        let size = room.map_or(Ok(otherwise.min(MOST_LENT)), |(at, text)| limited(at, text, "room", MOST_LENT))?;
+        let fill = self.option_fixed::<1>("fill")?.unwrap_or([0])[0];
+        Ok(Lent { bytes: vec![fill; size], sized: room.is_some(), shown: self.shows_lent()? })
+    }
+
+    /// Memory that a call changes in place.
+    pub fn lent_in_place(&mut self, bytes: Vec<u8>) -> Result<Lent, Fault> {
+        Ok(Lent { bytes, sized: false, shown: self.shows_lent()? })
+    }
+
+    fn shows_lent(&mut self) -> Result<bool, Fault> {
+        match self.option("show") {
+            None => Ok(false),
+            Some((_, "lent")) => Ok(true),
+            Some((at, other)) => Err(Fault::of_word(at, format!("show is {} and must be lent", shortened(other)))),
         }
-        let fill = match self.options.iter().position(|&(_, given, _)| given == "fill") {
-            None => 0,
-            Some(i) => {
-                let (at, _, value) = self.options.remove(i);
-                match hex(value).map_err(|why| format!("word {at}: fill {why}"))?[..] {
-                    [byte] => byte,
-                    _ => return Err(format!("word {at}: fill is 2 hex digits")),
-                }
-            }
-        };
-        Ok(Lent { bytes: vec![fill; room], fill })
     }
 
     /// Nothing may be left over: a word too many is more likely a mistake than meant.
-    pub fn end(self) -> Result<(), String> {
-        if let Some(&(at, word)) = self.words.get(self.next) {
-            return Err(format!("word {at}: {word} is one word too many"));
+    pub fn end(self) -> Result<(), Fault> {
+        if let Some(word) = self.words.get(self.next) {
+            let hint = if self.had_bytes { "; bytes with spaces stand in quotation marks" } else { "" };
+            return Err(Fault::of_word(word.at, format!("{} is one word too many{hint}", shortened(word.text))));
         }
         match self.options.first() {
-            Some(&(at, name, _)) => Err(format!("word {at}: this command has no option {name}, or it stands there twice")),
+            Some(&(at, name, _)) if self.taken.contains(&name) => Err(Fault::of_word(at, format!("{name} stands there twice"))),
+            Some(&(at, name, _)) => Err(Fault::of_word(at, format!("this command has no option {}", shortened(name)))),
             None => Ok(()),
         }
     }
 }
 
-/// Hex digits, two for each byte; a minus sign stands for no bytes.
-fn hex(text: &str) -> Result<Vec<u8>, String> {
-    if text == "-" {
-        return Ok(vec![]);
-    }
-    let digits: Vec<u8> = text
-        .chars()
-        .enumerate()
-        .map(|(at, c)| c.to_digit(16).map(|d| d as u8).ok_or_else(|| format!("has {c} as digit {}, which is not hex", at + 1)))
-        .collect::<Result<_, _>>()?;
-    if digits.len() % 2 == 1 {
-        return Err(format!("has {} hex digits; a byte is two", digits.len()));
-    }
-    Ok(digits.chunks(2).map(|pair| pair[0] * 16 + pair[1]).collect())
+fn read_bytes(word: Word, what: &str) -> Result<Vec<u8>, Fault> {
+    notation::bytes(word.text).map_err(|why| Fault::of_word(word.at, format!("{what} {why}")))
 }
 
-fn decimal(text: &str) -> Result<usize, String> {
-    if text.is_empty() || !text.bytes().all(|b| b.is_ascii_digit()) {
-        return Err("is a decimal number".into());
+fn read_fixed<const N: usize>(at: usize, text: &str, what: &str) -> Result<[u8; N], Fault> {
+    let hex = notation::bytes(text);
+    if let Ok(Ok(bytes)) = hex.as_ref().map(|bytes| <[u8; N]>::try_from(&bytes[..])) {
+        return Ok(bytes);
     }
-    text.parse().map_err(|_| format!("is at most {}", usize::MAX))
+    // Half a byte too many is a matter of the count, as a whole one is; a letter that is no digit is told as such.
+    let why = match (hex, digits_in(text)) {
+        (Err(why), None) => why,
+        (Err(_), Some(digits)) => wrong_count(digits, N),
+        (Ok(bytes), _) => wrong_count(2 * bytes.len(), N),
+    };
+    Err(Fault::of_word(at, format!("{what} {why}")))
+}
+
+fn wrong_count(digits: usize, bytes: usize) -> String {
+    format!("has {} and needs {}", counted(digits, "digit"), 2 * bytes)
+}
+
+fn read_number(at: usize, text: &str, what: &str) -> Result<usize, Fault> {
+    limited(at, text, what, usize::MAX)
+}
+
+fn limited(at: usize, text: &str, what: &str, most: usize) -> Result<usize, Fault> {
+    let number = notation::number_to(text, most as u64).map_err(|why| Fault::of_word(at, format!("{what} {why}")))?;
+    Ok(number as usize)
 }

@@ -1,64 +1,184 @@
-//! `kusikhut`: one command from its arguments, or one command a line from standard input; one line of answer for each,
-//! and set in below it a line for each thing that it lists. Commands on a store are taken from the arguments alone, so
-//! that lines from elsewhere touch no file.
+//! `kusikhut`: one command from its arguments, or one command a line from a file or standard input; an answer for each.
+//! Commands on a store are taken from the arguments alone, so that lines from elsewhere touch no file.
 //!
-//! The program parses and prints; every decision is the proved library's. The places where two words differ (`mend`)
-//! are the program's own comparison, and their number is checked against the library's.
+//! The program parses and prints; every decision is the proved library's. The program's own are words about an answer: how
+//! much is missing, which limit was passed, where two words differ (`mend`), the parts of a drawing.
+mod anatomy;
 mod args;
 mod commands;
+mod fault;
+mod flags;
+mod help;
+mod json;
 mod lines;
+mod notation;
+mod picture;
+mod printer;
 mod reply;
+mod text;
+mod words;
 
-use std::io::{self, Write};
+use fault::Fault;
+use flags::Request;
+use lines::{Broken, Line, Lines};
+use printer::{Outcome, Printer, Status};
+use std::fs::File;
+use std::io::{self, BufWriter, IsTerminal, Read, Write};
 use std::process::ExitCode;
 
+/// Why the program ends before its time.
+enum Stop {
+    /// The answer could not be written.
+    Output(io::Error),
+    /// There is no input, or no more of it: what it is, and why.
+    Input(String, io::Error),
+}
+
 fn main() -> ExitCode {
-    let given: Vec<String> = std::env::args_os().skip(1).map(|a| a.to_string_lossy().into_owned()).collect();
-    let mut out = io::stdout().lock();
-    let wrote = match given.first().map(String::as_str) {
-        None => converse(&mut out),
-        Some("store") => tell(commands::store::run(&given), &mut out),
-        Some(_) => answer(&given.join(" "), &mut out),
+    let arguments = std::env::args_os().skip(1).map(|a| a.to_string_lossy().into_owned());
+    let (flags, request) = match flags::of(arguments) {
+        Ok(asked) => asked,
+        Err(fault) => {
+            say(format_args!("error {fault}"));
+            return ExitCode::from(Status::NoAnswer as u8);
+        }
     };
-    match wrote.and_then(|()| out.flush()) {
+    let mut printer = Printer { out: BufWriter::with_capacity(lines::AT_ONCE, io::stdout().lock()), flags };
+    let done = answer(request, &mut printer).and_then(|status| {
+        printer.out.flush().map_err(Stop::Output)?;
+        Ok(status)
+    });
+    let status = match done {
+        Ok(status) => status,
         // A reader that went away (as `head` does) is no error of ours.
-        Err(why) if why.kind() != io::ErrorKind::BrokenPipe => {
-            eprintln!("kusikhut: the answer could not be written: {why}");
-            ExitCode::FAILURE
+        Err(Stop::Output(why)) if why.kind() == io::ErrorKind::BrokenPipe => Status::Accepted,
+        Err(Stop::Output(why)) => failed(format!("the answer could not be written: {why}")),
+        Err(Stop::Input(what, why)) => {
+            let _ = printer.out.flush();
+            failed(format!("{what} cannot be read: {why}"))
         }
-        _ => ExitCode::SUCCESS,
+    };
+    // What is left in the buffer could not be written, and is not tried again.
+    std::mem::forget(printer);
+    ExitCode::from(status as u8)
+}
+
+fn failed(why: String) -> Status {
+    say(format_args!("kusikhut: {why}"));
+    Status::NoAnswer
+}
+
+/// A line for a person. Where it cannot be written there is nobody to be told.
+fn say(line: std::fmt::Arguments) {
+    let _ = writeln!(io::stderr(), "{line}");
+}
+
+fn answer(request: Request, printer: &mut Printer<impl Write>) -> Result<Status, Stop> {
+    match request {
+        Request::Version => tell(Outcome::Text("version", help::version()), printer),
+        Request::ManPage => tell(Outcome::Text("man-page", help::man_page()), printer),
+        Request::BashCompletion => tell(Outcome::Text("bash-completion", help::bash_completion()), printer),
+        Request::Help(topic) => tell(help_on(&words::of_arguments(&topic)), printer),
+        Request::Words(words) => match words.as_slice() {
+            [] => converse("standard input", io::stdin().lock(), printer),
+            [dash] if dash == "-" => converse("standard input", io::stdin().lock(), printer),
+            [line] if is_line(line) => tell(of_line(line.as_bytes()), printer),
+            [file] if !is_command(file) => from_file(file, printer),
+            words => tell(of_arguments(&words::of_arguments(words)), printer),
+        },
     }
 }
 
-fn converse(out: &mut impl Write) -> io::Result<()> {
-    let mut input = io::stdin().lock();
-    while let Some(line) = lines::next(&mut input) {
-        match line {
-            lines::Line::Text(text) => answer(&text, out)?,
-            lines::Line::TooLong => writeln!(out, "error the line has over {} characters and was skipped", lines::LONGEST)?,
-            lines::Line::Unreadable(at) => writeln!(out, "error character {at} is no printable ASCII")?,
-            lines::Line::Broken(why) => return writeln!(out, "error standard input cannot be read: {why}"),
+/// Whether one argument is a whole line: a command, and behind a space its words. A file's name may have spaces, too.
+fn is_line(argument: &str) -> bool {
+    argument.trim_start().split_once([' ', '\t']).is_some_and(|(first, _)| is_command(first))
+}
+
+fn is_command(word: &str) -> bool {
+    commands::is_command(word) || ["store", "help"].contains(&word)
+}
+
+fn help_on(topic: &[words::Word]) -> Outcome {
+    help::on(topic).map_or_else(Outcome::Fault, |text| Outcome::Text("help", text))
+}
+
+/// One command from the arguments. What was not understood is told where a person looks and no script reads on.
+fn tell(outcome: Outcome, printer: &mut Printer<impl Write>) -> Result<Status, Stop> {
+    match &outcome {
+        Outcome::Fault(fault) if !printer.flags.json => say(format_args!("error {fault}")),
+        _ => printer.print(&outcome, 1).map_err(Stop::Output)?,
+    }
+    Ok(outcome.status())
+}
+
+fn of_arguments(words: &[words::Word]) -> Outcome {
+    match words.first() {
+        Some(first) if first.text == "store" => Outcome::of(commands::store::run(words)),
+        _ => of_words(words),
+    }
+}
+
+fn of_words(words: &[words::Word]) -> Outcome {
+    match words.first() {
+        Some(first) if first.text == "help" => help_on(&words[1..]),
+        _ => Outcome::of(commands::run(words)),
+    }
+}
+
+/// A line that is one argument.
+fn of_line(line: &[u8]) -> Outcome {
+    match words::of_line(line) {
+        words::Line::Words(words) => of_words(&words),
+        words::Line::Wrong(fault) => Outcome::Fault(fault),
+        words::Line::Blank | words::Line::Comment(_) => of_words(&[]),
+    }
+}
+
+fn from_file(name: &str, printer: &mut Printer<impl Write>) -> Result<Status, Stop> {
+    match File::open(name) {
+        Ok(file) => converse(name, file, printer),
+        Err(why) if why.kind() == io::ErrorKind::NotFound => {
+            let (meant, name) = (commands::meant(name), notation::shortened(name));
+            let why = format!("there is no command {name}{meant}, and no file of this name; help lists the commands");
+            tell(Outcome::Fault(Fault::of_word(1, why)), printer)
         }
+        Err(why) => Err(Stop::Input(name.into(), why)),
     }
-    Ok(())
 }
 
-/// Answers one line. Blank lines have no answer, and a line that begins with # is passed on, so that a file of commands
-/// can say what it shows.
-fn answer(line: &str, out: &mut impl Write) -> io::Result<()> {
-    let line = line.trim();
-    if line.is_empty() {
-        return Ok(());
+/// A command a line; an answer for each before the next one is waited for.
+fn converse(what: &str, input: impl Read, printer: &mut Printer<impl Write>) -> Result<Status, Stop> {
+    if what == "standard input" && io::stdin().is_terminal() {
+        say(format_args!("A command a line; help lists them, and an end of file (Ctrl-D) ends it."));
     }
-    if line.starts_with('#') {
-        return writeln!(out, "{line}");
+    let mut lines = Lines::of(input);
+    let mut first_fault = Status::Accepted;
+    loop {
+        let (number, line) = match lines.next(|| printer.out.flush()) {
+            Ok(Some(next)) => next,
+            Ok(None) => break,
+            Err(Broken::Pause(why)) => return Err(Stop::Output(why)),
+            Err(Broken::Input(why)) => return Err(Stop::Input(what.into(), why)),
+        };
+        let outcome = match line {
+            Line::TooLong => {
+                let why = format!("the line has over {} bytes and was skipped", lines::LONGEST);
+                Outcome::Fault(Fault::of_line(why))
+            }
+            Line::Bytes(bytes) => match words::of_line(bytes) {
+                words::Line::Blank => continue,
+                words::Line::Comment(comment) => {
+                    printer.comment(&comment, number).map_err(Stop::Output)?;
+                    continue;
+                }
+                words::Line::Wrong(fault) => Outcome::Fault(fault),
+                words::Line::Words(words) => of_words(&words),
+            },
+        };
+        if first_fault == Status::Accepted {
+            first_fault = outcome.status();
+        }
+        printer.print(&outcome, number).map_err(Stop::Output)?;
     }
-    tell(commands::run(line), out)
-}
-
-fn tell(answer: Result<String, String>, out: &mut impl Write) -> io::Result<()> {
-    match answer {
-        Ok(text) => writeln!(out, "{text}"),
-        Err(fault) => writeln!(out, "error {fault}"),
-    }
+    Ok(if printer.flags.strict { first_fault } else { Status::Accepted })
 }

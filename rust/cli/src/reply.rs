@@ -1,65 +1,110 @@
-//! The one line of answer: number, name in words, then `field=value` in a fixed order; where it lists things, a line of
-//! such fields for each below it.
-use crate::args::Lent;
+//! An answer before it is printed: number and name, then fields, each with its kind of value, then what stands below it.
+//! The two ways to print it are text.rs and json.rs; both print the same fields.
 use kusikhut::Refusal;
-use std::fmt::Write;
 
-pub struct Reply(String);
+pub enum Value {
+    Number(u64),
+    Real(f64),
+    Bytes(Vec<u8>),
+    Word(String),
+    Is(bool),
+    /// There is none, as of a maker without letters.
+    None,
+}
+
+#[derive(Default)]
+pub struct Fields(pub Vec<(&'static str, Value)>);
+
+/// What stands below an answer.
+pub enum Below {
+    /// Things of one kind, under the list's name.
+    List(&'static str, Vec<Fields>),
+    /// One thing.
+    Part(&'static str, Fields),
+    /// The answer to a call that was made with the result of this one.
+    Reply(&'static str, Reply),
+}
+
+pub struct Reply {
+    pub number: u8,
+    pub name: &'static str,
+    pub fields: Fields,
+    pub below: Vec<Below>,
+    /// A drawing, which is printed in place of all this as text, and beside it as JSON.
+    pub drawing: Option<String>,
+}
+
+impl Fields {
+    pub fn value(mut self, name: &'static str, value: Value) -> Fields {
+        self.0.push((name, value));
+        self
+    }
+
+    pub fn number(self, name: &'static str, number: u64) -> Fields {
+        self.value(name, Value::Number(number))
+    }
+
+    pub fn bytes(self, name: &'static str, bytes: &[u8]) -> Fields {
+        self.value(name, Value::Bytes(bytes.to_vec()))
+    }
+
+    pub fn word(self, name: &'static str, word: impl Into<String>) -> Fields {
+        self.value(name, Value::Word(word.into()))
+    }
+
+    pub fn is(self, name: &'static str, holds: bool) -> Fields {
+        self.value(name, Value::Is(holds))
+    }
+}
 
 impl Reply {
     pub fn accepted() -> Reply {
-        Reply("0 accepted".into())
+        Reply { number: 0, name: "accepted", fields: Fields::default(), below: Vec::new(), drawing: None }
     }
 
     pub fn refused(refusal: Refusal) -> Reply {
-        Reply(refusal.to_string())
+        let reply = Reply { number: refusal.number(), name: refusal.name(), ..Reply::accepted() };
+        match refusal.value() {
+            Some((name, value)) => reply.with(|f| f.number(name, value)),
+            None => reply,
+        }
     }
 
     /// What was accepted, told by `tell`, or the refusal.
-    pub fn of<T>(answer: Result<T, Refusal>, tell: impl FnOnce(Reply, T) -> Reply) -> Reply {
+    pub fn of<T>(answer: Result<T, Refusal>, tell: impl FnOnce(Fields, T) -> Fields) -> Reply {
         match answer {
-            Ok(value) => tell(Reply::accepted(), value),
+            Ok(value) => Reply::accepted().with(|f| tell(f, value)),
             Err(refusal) => Reply::refused(refusal),
         }
     }
 
-    pub fn field(mut self, name: &str, value: impl std::fmt::Display) -> Reply {
-        // Writing to a String cannot fail.
-        let _ = write!(self.0, " {name}={value}");
+    /// With more fields.
+    pub fn with(mut self, tell: impl FnOnce(Fields) -> Fields) -> Reply {
+        self.fields = tell(self.fields);
         self
     }
 
-    /// A line below the answer, set in, with the fields that `tell` gives it.
-    pub fn below(mut self, tell: impl FnOnce(Reply) -> Reply) -> Reply {
-        let _ = write!(self.0, "\n {}", tell(Reply(String::new())).0);
+    /// With more fields if it has this number.
+    pub fn if_number(self, number: u8, tell: impl FnOnce(Fields) -> Fields) -> Reply {
+        if self.number == number { self.with(tell) } else { self }
+    }
+
+    pub fn drawn(mut self, drawing: String) -> Reply {
+        self.drawing = Some(drawing);
         self
     }
 
-    /// Such a line for each of the things.
-    pub fn list<T>(self, things: &[T], tell: impl Fn(Reply, &T) -> Reply) -> Reply {
-        things.iter().fold(self, |reply, thing| reply.below(|row| tell(row, thing)))
+    pub fn below(mut self, below: Below) -> Reply {
+        self.below.push(below);
+        self
     }
 
-    /// All lent bytes after the call. A run of the fill byte at the end is shown as its count: 44AE+3*00 is 44 AE 00 00 00.
-    pub fn lent(self, lent: &Lent) -> Reply {
-        let tail = lent.bytes.iter().rev().take_while(|&&b| b == lent.fill).count();
-        let mut text = hex(&lent.bytes[..lent.bytes.len() - tail]);
-        if tail > 0 {
-            let _ = write!(text, "+{tail}*{:02X}", lent.fill);
-        }
-        self.field("lent", if text.is_empty() { "-" } else { &text })
+    pub fn list<T>(self, name: &'static str, things: &[T], tell: impl Fn(&T) -> Fields) -> Reply {
+        self.below(Below::List(name, things.iter().map(tell).collect()))
     }
 
-    pub fn line(self) -> String {
-        self.0
+    /// Accepted, and so is every call that was made with the result.
+    pub fn all_accepted(&self) -> bool {
+        self.number == 0 && self.below.iter().all(|below| !matches!(below, Below::Reply(_, reply) if !reply.all_accepted()))
     }
-}
-
-/// Bytes as hex digits, and no bytes as a minus sign.
-pub fn shown(bytes: &[u8]) -> String {
-    if bytes.is_empty() { "-".into() } else { hex(bytes) }
-}
-
-fn hex(bytes: &[u8]) -> String {
-    bytes.iter().map(|b| format!("{b:02X}")).collect()
 }

@@ -1,6 +1,6 @@
 //! A safe wrapper of the proved wireless M-Bus link layer (EN 13757-4:2019).
 //!
-//! Every function takes any slices and numbers and answers: the accepted values, or the [`Refusal`] that docs/ANSWERS.md
+//! Every function takes any slices and numbers and answers: the accepted values, or the [`Refusal`] that docs/RULES.md
 //! lists. A refusal leaves lent memory as it was. Nothing here decides anything: the proved library does. [`StoreFile`]
 //! adds to it what no library of pure calls can have: a store that outlives the power.
 
@@ -30,7 +30,7 @@ pub use frame::{Format, Frame};
 pub use header::{access, Access, Header};
 pub use line::Code;
 pub use radio::{receive, receive_manchester, Received};
-pub use refusal::Refusal;
+pub use refusal::{answer, answers, Answer, Refusal};
 pub use store::{Meter, Mode, Settings, Store, STORE_SIZE};
 pub use store_file::{read_store, Restored, StoreFault, StoreFile};
 pub use sync::{search, Found, Kind};

@@ -1,7 +1,40 @@
-//! A refusal: its number and the one value that it may carry are the library's; every word about it is docs/ANSWERS.md's.
+//! A refusal: its number and the one value that it may carry are the library's; every word about it is docs/RULES.md's.
 use std::fmt;
+use std::sync::OnceLock;
 
-const PAGE: &str = include_str!("../../../docs/ANSWERS.md");
+const PAGE: &str = include_str!("../../../docs/RULES.md");
+
+/// A row of the page's table of answers: what the page says of an answer's number.
+#[derive(Clone, Copy, Debug, PartialEq, Eq)]
+pub struct Answer {
+    pub number: u8,
+    /// The answer in one word, for scripts.
+    pub name: &'static str,
+    /// The name of the one value that it carries, where it carries one.
+    pub value: Option<&'static str>,
+    /// When it is given.
+    pub meaning: &'static str,
+}
+
+/// Every answer, 0 for accepted among them, in the page's order.
+pub fn answers() -> &'static [Answer] {
+    static ROWS: OnceLock<Vec<Answer>> = OnceLock::new();
+    ROWS.get_or_init(|| PAGE.lines().filter_map(row).collect())
+}
+
+/// The answer with this number, if there is one.
+pub fn answer(number: u8) -> Option<Answer> {
+    answers().iter().find(|answer| answer.number == number).copied()
+}
+
+/// The answer of a line of the page, if the line is a row of the table of answers.
+fn row(line: &'static str) -> Option<Answer> {
+    let mut cells = line.strip_prefix('|')?.split('|').map(str::trim);
+    let number = cells.next()?.parse().ok()?;
+    let (name, value, meaning) = (cells.next()?, cells.nth(1)?, cells.next()?);
+    let bare = |cell: &'static str| cell.trim_matches('`');
+    Some(Answer { number, name: bare(name), value: (!value.is_empty()).then_some(bare(value)), meaning })
+}
 
 #[derive(Clone, Copy, Debug, PartialEq, Eq)]
 pub struct Refusal {
@@ -22,12 +55,21 @@ impl Refusal {
 
     /// The refusal in one word, for scripts.
     pub fn name(self) -> &'static str {
-        row(self.number).0
+        self.answer().name
     }
 
     /// The value that the refusal carries, with its name.
     pub fn value(self) -> Option<(&'static str, u64)> {
-        row(self.number).1.map(|name| (name, self.value))
+        self.answer().value.map(|name| (name, self.value))
+    }
+
+    /// When the refusal is given, in a sentence for people.
+    pub fn meaning(self) -> &'static str {
+        self.answer().meaning
+    }
+
+    fn answer(self) -> Answer {
+        answer(self.number).unwrap_or_else(|| unreachable!("the library answers no number {}", self.number))
     }
 }
 
@@ -41,19 +83,6 @@ impl fmt::Display for Refusal {
     }
 }
 
-/// The page's word for an answer number, and the name of its value where it has one.
-fn row(number: u8) -> (&'static str, Option<&'static str>) {
-    PAGE.lines().find_map(|line| cells(line, number)).unwrap_or_else(|| unreachable!("the library answers no number {number}"))
-}
-
-/// The word and the value's name, if this line of the page is the row of the number.
-fn cells(line: &'static str, number: u8) -> Option<(&'static str, Option<&'static str>)> {
-    let mut cells = line.strip_prefix('|')?.split('|').map(|cell| cell.trim().trim_matches('`'));
-    let given = cells.next()?.parse::<u8>().ok()?;
-    let (word, value) = (cells.next()?, cells.nth(1)?);
-    (given == number).then_some((word, (!value.is_empty()).then_some(value)))
-}
-
 #[cfg(test)]
 mod tests {
     use super::*;
@@ -63,7 +92,9 @@ mod tests {
         let told = |number, value| Refusal { number, value }.to_string();
         assert_eq!([told(1, 0), told(3, 2), told(14, 5)], ["1 too-short", "3 wrong-check block=2", "14 allowance-used-up tried=5"]);
         for number in (0..=14).chain(17..=26) {
-            assert!(row(number).0.bytes().all(|b| b == b'-' || b.is_ascii_lowercase()), "{number}");
+            let answer = answer(number).unwrap_or_else(|| panic!("{number} has no row"));
+            assert!(answer.name.bytes().all(|b| b == b'-' || b.is_ascii_lowercase()) && !answer.meaning.is_empty(), "{number}");
         }
+        assert_eq!(answers().len(), 25, "no other table of the page has rows that begin with a number");
     }
 }

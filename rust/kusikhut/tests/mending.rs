@@ -22,7 +22,7 @@ const WORD: usize = 52;
 const LONGEST: usize = 223;
 const UNTOUCHED: u8 = 0xEE;
 
-/// The refusal in the words of docs/ANSWERS.md.
+/// The refusal in the words of docs/RULES.md.
 fn refused<T: Debug>(answer: Result<T, Refusal>) -> String {
     answer.expect_err("this is refused").to_string()
 }

@@ -4,7 +4,7 @@ use std::fmt::Debug;
 
 const CEN: [u8; 8] = [0xAE, 0x0C, 0x78, 0x56, 0x34, 0x12, 0x01, 0x07];
 
-/// The refusal in the words of docs/ANSWERS.md.
+/// The refusal in the words of docs/RULES.md.
 fn refused<T: Debug>(answer: Result<T, Refusal>) -> String {
     answer.expect_err("this is refused").to_string()
 }

@@ -1,42 +1,49 @@
 //! The mode N channel plan.
 use super::Command;
 use crate::args::Args;
-use crate::reply::Reply;
+use crate::fault::Fault;
+use crate::reply::{Fields, Reply, Value};
 
 pub const COMMANDS: &[Command] = &[
     Command {
         name: "channel",
         usage: "INDEX CHANNEL",
-        does: "a mode N channel's centre and its row of Table 21, in kilohertz",
+        does: "the centre of a mode N channel",
+        more: "With its row of Table 21, in kilohertz.",
         example: "channel 5 0",
         run: channel,
     },
     Command {
         name: "band",
         usage: "LETTER",
-        does: "every channel of band A, B, C or D as index:channel:hz",
+        does: "every channel of band A, B, C or D",
+        more: "Each with its index and its centre in hertz.",
         example: "band B",
         run: band,
     },
 ];
 
-fn channel(mut a: Args) -> Result<Reply, String> {
+fn channel(mut a: Args) -> Result<Reply, Fault> {
     let (index, channel) = (a.number("INDEX")?, a.number("CHANNEL")?);
     a.end()?;
-    Ok(Reply::of(kusikhut::centre(index, channel), |reply, khz| {
+    Ok(Reply::of(kusikhut::centre(index, channel), |f, khz| {
         let row = kusikhut::row(index);
-        reply.field("khz", khz).field("first", row.centre).field("spacing", row.spacing).field("tolerance", row.tolerance)
+        let real = |f: Fields, name, number| f.value(name, Value::Real(number));
+        real(real(real(real(f, "khz", khz), "first", row.centre), "spacing", row.spacing), "tolerance", row.tolerance)
     }))
 }
 
-fn band(mut a: Args) -> Result<Reply, String> {
-    let letter = a.word("LETTER")?.1;
+fn band(mut a: Args) -> Result<Reply, Fault> {
+    let letter = a.word("LETTER")?.text.as_bytes();
     a.end()?;
-    let first = match kusikhut::band_line(letter.as_bytes(), 0) {
+    let first = match kusikhut::band_line(letter, 0) {
         Ok(line) => line,
         Err(refusal) => return Ok(Reply::refused(refusal)),
     };
-    let others = (1..).map_while(|k| kusikhut::band_line(letter.as_bytes(), k).ok());
-    let lines = std::iter::once(first).chain(others).map(|l| format!("{}:{}:{}", l.index, l.channel, l.hertz));
-    Ok(Reply::accepted().field("channels", lines.collect::<Vec<String>>().join(",")))
+    let others = (1..).map_while(|k| kusikhut::band_line(letter, k).ok());
+    let lines: Vec<_> = std::iter::once(first).chain(others).collect();
+    let told = Reply::accepted().with(|f| f.number("count", lines.len() as u64));
+    Ok(told.list("channels", &lines, |line| {
+        Fields::default().number("index", line.index).number("channel", line.channel).number("hertz", line.hertz)
+    }))
 }

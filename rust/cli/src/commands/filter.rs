@@ -1,29 +1,52 @@
 //! The meter filter.
-use super::Command;
+use super::{out_of_range, Command};
 use crate::args::Args;
+use crate::fault::Fault;
+use crate::notation::counted;
 use crate::reply::Reply;
 
 pub const COMMANDS: &[Command] = &[
     Command {
         name: "filter",
         usage: "CONTENT [ENTRY ..] [count=ENTRIES]",
-        does: "whether the content is of a meter among the entries (M and A, at most sixteen)",
+        does: "whether a content is of a wanted meter",
+        more: "ENTRY is M and A as received, 8 bytes; there are at most sixteen. count= takes only the first of \
+               them.",
         example: "filter 44AE0C785634120107780B13436587 AE0C785634120107",
         run: filter,
     },
 ];
 
-fn filter(mut a: Args) -> Result<Reply, String> {
+const MOST_ENTRIES: usize = 16;
+
+/// The shortest content that has the meter's name in it.
+const SHORTEST: u64 = 9;
+
+fn filter(mut a: Args) -> Result<Reply, Fault> {
     let content = a.bytes("CONTENT")?;
-    let mut entries = [[0u8; 8]; 16];
-    let mut given = 0;
+    let mut given = Vec::new();
     while a.more() {
-        let entry = a.fixed::<8>("ENTRY")?;
-        *entries.get_mut(given).ok_or("a filter has at most 16 entries")? = entry;
-        given += 1;
+        given.push(a.fixed::<8>("ENTRY")?);
     }
-    let count = a.option("count", given)?;
+    let count = match a.option("count") {
+        None => given.len(),
+        Some((at, text)) => counted_entries(at, text, given.len())?,
+    };
     a.end()?;
+    let mut entries = [[0; 8]; MOST_ENTRIES];
+    entries.iter_mut().zip(&given).for_each(|(entry, given)| *entry = *given);
     let answer = kusikhut::wanted(&entries, count, &content);
-    Ok(Reply::of(answer, |reply, yes| reply.field("wanted", if yes { "yes" } else { "no" })))
+    let reply = Reply::of(answer, |f, yes| f.is("wanted", yes));
+    let reply = out_of_range(reply, &[("count", count as u64, MOST_ENTRIES as u64)]);
+    Ok(reply.if_number(5, |f| f.number("given", content.len() as u64).number("least", SHORTEST)))
+}
+
+/// The count may leave typed entries out, but none is made up: an entry of zeros is a meter's name like any other.
+fn counted_entries(at: usize, text: &str, given: usize) -> Result<usize, Fault> {
+    let count = crate::notation::number(text).map_err(|why| Fault::of_word(at, format!("count {why}")))?;
+    if count > given as u64 {
+        let there = counted(given, "entry").replace("entrys", "entries");
+        return Err(Fault::of_word(at, format!("count is {count}, and the line has {there}")));
+    }
+    Ok(count as usize)
 }

@@ -1,69 +1,83 @@
 //! Extended link headers, and the access that CC announces.
+use super::address::maker;
 use super::Command;
 use crate::args::Args;
-use crate::reply::{shown, Reply};
+use crate::fault::Fault;
+use crate::reply::{Fields, Reply};
 use kusikhut::{Access, Header};
 
 pub const COMMANDS: &[Command] = &[
     Command {
         name: "header",
         usage: "BODY",
-        does: "read the extended link header at the start of a body",
+        does: "read an extended link header",
+        more: "BODY begins with CI 8C, 8D, 8E or 8F. Fields are shown as received, SN also as a number.",
         example: "header 8C2027780B13",
         run: header,
     },
     Command {
         name: "write-header",
-        usage: "8C CC ACC | 8D CC ACC SN CRC | 8E CC ACC M2 A2 | 8F CC ACC M2 A2 SN CRC [room=17] [fill=00]",
-        does: "write an extended link header; M2 and SN as numbers, A2 and CRC as they are sent",
-        example: "write-header 8E 20 27 0CAE 785634120107",
+        usage: "8C CC ACC | 8D CC ACC SN CRC | 8E CC ACC M2 A2 | 8F CC ACC M2 A2 SN CRC [room=17] [fill=00] [show=lent]",
+        does: "write an extended link header",
+        more: "Each field is its bytes as they are sent.",
+        example: "write-header 8E 20 27 AE0C 785634120107",
         run: write_header,
     },
     Command {
         name: "access",
         usage: "CC",
-        does: "when the meter may be called",
+        does: "when a meter may be called",
+        more: "By its byte CC.",
         example: "access 84",
         run: access,
     },
 ];
 
-fn header(mut a: Args) -> Result<Reply, String> {
-    let body = a.bytes("BODY")?;
+fn header(mut a: Args) -> Result<Reply, Fault> {
+    let body = a.last_bytes("BODY")?;
     a.end()?;
-    Ok(Reply::of(Header::read(&body), |reply, (header, length)| {
-        let reply = reply.field("length", length).field("ci", format!("{:02X}", header.ci()));
+    let reply = Reply::of(Header::read(&body), |f, (header, size)| {
+        let f = f.number("size", size).bytes("ci", &[header.ci()]);
         match header {
-            Header::Plain { cc, acc } => control(reply, cc, acc),
-            Header::Secured { cc, acc, sn, crc } => session(control(reply, cc, acc), sn, crc),
-            Header::Addressed { cc, acc, m2, a2 } => named(control(reply, cc, acc), m2, a2),
-            Header::AddressedSecured { cc, acc, m2, a2, sn, crc } => session(named(control(reply, cc, acc), m2, a2), sn, crc),
+            Header::Plain { cc, acc } => control(f, cc, acc),
+            Header::Secured { cc, acc, sn, crc } => session(control(f, cc, acc), sn, crc),
+            Header::Addressed { cc, acc, m2, a2 } => named(control(f, cc, acc), m2, a2),
+            Header::AddressedSecured { cc, acc, m2, a2, sn, crc } => session(named(control(f, cc, acc), m2, a2), sn, crc),
         }
-    }))
+    });
+    let reply = reply.if_number(11, |f| f.bytes("ci", &body[..1]));
+    Ok(reply.if_number(12, |f| f.number("missing-bytes", missing(&body))))
 }
 
-fn control(reply: Reply, cc: u8, acc: u8) -> Reply {
-    reply.field("cc", format!("{cc:02X}")).field("acc", format!("{acc:02X}"))
+/// How many bytes are missing to the header that the body's first byte announces.
+fn missing(body: &[u8]) -> u64 {
+    let filled: Vec<u8> = body.iter().copied().chain([0; 17]).collect();
+    let size = Header::read(&filled).map_or(1, |(_, size)| size);
+    if body.is_empty() { 1 } else { size.saturating_sub(body.len() as u64) }
 }
 
-fn named(reply: Reply, m2: u16, a2: [u8; 6]) -> Reply {
-    reply.field("m2", format!("{m2:04X}")).field("a2", shown(&a2))
+fn control(fields: Fields, cc: u8, acc: u8) -> Fields {
+    fields.bytes("cc", &[cc]).bytes("acc", &[acc])
 }
 
-fn session(reply: Reply, sn: u32, crc: [u8; 2]) -> Reply {
-    reply.field("sn", format!("{sn:08X}")).field("crc", shown(&crc))
+fn named(fields: Fields, m2: u16, a2: [u8; 6]) -> Fields {
+    maker(fields.bytes("m2", &m2.to_le_bytes()), m2.to_le_bytes()).bytes("a2", &a2)
 }
 
-fn write_header(mut a: Args) -> Result<Reply, String> {
+fn session(fields: Fields, sn: u32, crc: [u8; 2]) -> Fields {
+    fields.bytes("sn", &sn.to_le_bytes()).number("sn-number", sn.into()).bytes("crc", &crc)
+}
+
+fn write_header(mut a: Args) -> Result<Reply, Fault> {
     let ci = a.choice("CI", &[("8C", 0x8C), ("8D", 0x8D), ("8E", 0x8E), ("8F", 0x8F)])?;
     let (cc, acc) = (a.byte("CC")?, a.byte("ACC")?);
     let (mut m2, mut a2, mut sn, mut crc) = (0, [0; 6], 0, [0; 2]);
     if ci >= 0x8E {
-        m2 = u16::from_be_bytes(a.fixed::<2>("M2")?);
+        m2 = u16::from_le_bytes(a.fixed::<2>("M2")?);
         a2 = a.fixed::<6>("A2")?;
     }
     if ci == 0x8D || ci == 0x8F {
-        sn = u32::from_be_bytes(a.fixed::<4>("SN")?);
+        sn = u32::from_le_bytes(a.fixed::<4>("SN")?);
         crc = a.fixed::<2>("CRC")?;
     }
     let header = match ci {
@@ -74,10 +88,12 @@ fn write_header(mut a: Args) -> Result<Reply, String> {
     };
     let mut lent = a.lent(17)?;
     a.end()?;
-    Ok(Reply::of(header.write(&mut lent.bytes), |reply, length| reply.field("length", length)).lent(&lent))
+    let reply = Reply::of(header.write(&mut lent.bytes), |f, size| lent.result(f.number("size", size), "header", size));
+    let needs = || header.write(&mut [0; 17]).unwrap_or(0);
+    Ok(reply.if_number(4, |f| f.number("room", lent.room()).number("needs", needs())).with(|f| lent.all(f)))
 }
 
-fn access(mut a: Args) -> Result<Reply, String> {
+fn access(mut a: Args) -> Result<Reply, Fault> {
     let cc = a.byte("CC")?;
     a.end()?;
     let name = match kusikhut::access(cc) {
@@ -86,5 +102,5 @@ fn access(mut a: Args) -> Result<Reply, String> {
         Access::Limited => "limited",
         Access::Always => "unlimited",
     };
-    Ok(Reply::accepted().field("access", name))
+    Ok(Reply::accepted().with(|f| f.word("access", name)))
 }

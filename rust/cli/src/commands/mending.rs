@@ -1,50 +1,85 @@
 //! Mending by correction bytes: a proposal for what was received is judged, and its frame is read if it was taken.
+use super::correction::too_long;
 use super::frame::{reading, FORMATS};
 use super::Command;
 use crate::args::{Args, Lent};
-use crate::reply::{shown, Reply};
+use crate::fault::Fault;
+use crate::notation::shortened;
+use crate::reply::{Below, Fields, Reply};
 use kusikhut::{Format, Refusal, CORRECTION_SIZE};
 
 pub const COMMANDS: &[Command] = &[
     Command {
         name: "mend",
-        usage: "FORMAT RECEIVED [PROPOSAL] [upto=16] [room=255] [fill=00]",
-        does: "judge PROPOSAL (frame and check bytes) for RECEIVED (frame, header and check bytes), show where\n    \
-               they differ, and read what is taken; without PROPOSAL one that mends up to 16 wrong bytes, or\n    \
-               with upto=1 a single one, the length byte not covered; read docs/CORRECTION.md before use",
+        usage: "FORMAT RECEIVED [PROPOSAL] [upto=16] [room=255] [fill=00] [show=lent]",
+        does: "mend a frame by its correction bytes",
+        more: "PROPOSAL (frame and check bytes) is judged for RECEIVED (frame, header and check bytes), the \
+               places where they differ are shown, and what is taken is read. Without PROPOSAL one is made that \
+               mends up to 16 wrong bytes, or with upto=1 a single one; the length byte is not covered. Read \
+               docs/CORRECTION.md before use.",
         example: "mend A 0F44AE0C7856341201074447780B134465871E6D2104\
-                  84EA276958EC76A29678BF51DFED7661D46D36B8523BAE787CEFFD7B007EC9C6 room=15",
+                  84EA276958EC76A29678BF51DFED7661D46D36B8523BAE787CEFFD7B007EC9C6",
         run: mend,
     },
 ];
 
 const HEADER_SIZE: usize = 2;
 
-fn mend(mut a: Args) -> Result<Reply, String> {
+fn mend(mut a: Args) -> Result<Reply, Fault> {
     let format = a.choice("FORMAT", &FORMATS)?;
     let received = a.bytes("RECEIVED")?;
     let given = if a.more() { Some(a.bytes("PROPOSAL")?) } else { None };
-    let proposer = if given.is_none() { a.proposer()? } else { PROPOSERS[0].1 };
+    let proposer = a.proposer(given.is_some())?;
     let mut lent = a.lent(255)?;
     a.end()?;
     let made = given.is_none();
     Ok(match given.map_or_else(|| proposed_by(proposer, format, &received), Ok) {
         Ok(proposal) => judged(format, &proposal, made, &received, &mut lent),
-        Err(refusal) => Reply::refused(refusal),
+        Err(refusal) => {
+            let short = [("RECEIVED", missing(format, &received, &received, CORRECTION_SIZE))];
+            by_length_byte(told_short(Reply::refused(refusal), &short), format, "RECEIVED", &received)
+        }
     })
+}
+
+/// How many bytes are missing to a frame, by a length byte, and what stands behind it; 1 where there is no length byte.
+fn missing(format: Format, by: &[u8], bytes: &[u8], behind: usize) -> u64 {
+    match by.first() {
+        Some(&l) => (format.frame_size(l).unwrap_or(0) + behind as u64).saturating_sub(bytes.len() as u64),
+        None => 1,
+    }
+}
+
+/// Of a length byte that is not allowed, or a frame that is too long by it, whose it is, and how much that would be.
+fn by_length_byte(reply: Reply, format: Format, name: &'static str, word: &[u8]) -> Reply {
+    let l = || word.first().map_or(0, |&l| l.into());
+    let reply = reply.if_number(2, |f| f.word("in", name).number("l", l())).if_number(23, |f| f.word("in", name));
+    too_long(reply, format, word)
+}
+
+/// Of 1, too-short, which of the words is too short, and by how many bytes.
+fn told_short(reply: Reply, words: &[(&'static str, u64)]) -> Reply {
+    match words.iter().find(|&&(_, missing)| missing > 0) {
+        Some(&(name, missing)) => reply.if_number(1, |f| f.word("in", name).number("missing-bytes", missing)),
+        None => reply,
+    }
 }
 
 type Proposer = fn(Format, &[u8], &mut [u8]) -> Result<u64, Refusal>;
 
 /// By how many wrong bytes are mended, the usual one first.
-const PROPOSERS: [(usize, Proposer); 2] = [(16, Format::propose), (1, Format::propose_one)];
+const PROPOSERS: [(&str, Proposer); 2] = [("16", Format::propose), ("1", Format::propose_one)];
 
 impl Args<'_> {
-    fn proposer(&mut self) -> Result<Proposer, String> {
-        let at = self.option_place("upto");
-        let upto = self.option("upto", PROPOSERS[0].0)?;
-        let proposer = PROPOSERS.iter().find(|&&(bytes, _)| bytes == upto);
-        proposer.map(|&(_, proposer)| proposer).ok_or_else(|| format!("word {at}: upto is 16 or 1"))
+    fn proposer(&mut self, given: bool) -> Result<Proposer, Fault> {
+        let Some((at, text)) = self.option("upto") else {
+            return Ok(PROPOSERS[0].1);
+        };
+        if given {
+            return Err(Fault::of_word(at, "upto is for a proposal that is made here, and PROPOSAL is given"));
+        }
+        let proposer = PROPOSERS.iter().find(|&&(bytes, _)| bytes == text).map(|&(_, proposer)| proposer);
+        proposer.ok_or_else(|| Fault::of_word(at, format!("upto is {} and must be 16 or 1", shortened(text))))
     }
 }
 
@@ -61,18 +96,24 @@ fn proposed_by(proposer: Proposer, format: Format, received: &[u8]) -> Result<Ve
 fn judged(format: Format, proposal: &[u8], made: bool, received: &[u8], lent: &mut Lent) -> Reply {
     let told = |reply| {
         let reply = Words::of(format, proposal, received).tell(reply);
-        let uncovered = |row: Reply| row.field("length-byte", shown(&received[..1])).field("covered", "no");
-        if made { reply.below(uncovered) } else { reply }
+        let uncovered = || Fields::default().bytes("length-byte", &received[..1]).is("covered", false);
+        if made { reply.below(Below::Part("length", uncovered())) } else { reply }
     };
     match format.judge_proposal(proposal, received) {
         Ok(differing) => {
             let places = Words::of(format, proposal, received).places.len() as u64;
             assert_eq!(places, differing, "the library counts the same places");
             let read = reading(format, proposal, lent);
-            told(Reply::accepted().field("differing", differing)).below(|row| row.field("reading", read.line()))
+            told(Reply::accepted().with(|f| f.number("differing", differing))).below(Below::Reply("reading", read))
         }
         Err(refusal) if matches!(refusal.number(), NOT_CODE | TOO_FAR) => told(Reply::refused(refusal)),
-        Err(refusal) => Reply::refused(refusal),
+        Err(refusal) => {
+            let words = [
+                ("PROPOSAL", missing(format, proposal, proposal, CORRECTION_SIZE - HEADER_SIZE)),
+                ("RECEIVED", missing(format, proposal, received, CORRECTION_SIZE)),
+            ];
+            by_length_byte(told_short(Reply::refused(refusal), &words), format, "PROPOSAL", proposal)
+        }
     }
 }
 
@@ -104,17 +145,15 @@ impl Words {
     /// A line for each of the two, and one for each place.
     fn tell(&self, reply: Reply) -> Reply {
         let (size, checks) = (self.size, self.size + HEADER_SIZE);
-        let frame = |row: Reply, name, word: &[u8]| row.field("word", name).field("frame", shown(&word[..size]));
-        let check_bytes = |row: Reply, word: &[u8]| row.field("check-bytes", shown(&word[checks..]));
-        reply
-            .below(|row| {
-                let row = frame(row, "received", &self.received).field("header", shown(&self.received[size..checks]));
-                check_bytes(row, &self.received)
-            })
-            .below(|row| check_bytes(frame(row, "proposed", &self.proposed), &self.proposed))
-            .list(&self.places, |row, &at| {
-                let row = row.field("place", at).field("received", shown(&self.received[at..=at]));
-                row.field("proposed", shown(&self.proposed[at..=at]))
-            })
+        let word = |name: &str, word: &[u8]| Fields::default().word("word", name).bytes("frame", &word[..size]);
+        let received = word("received", &self.received).bytes("header", &self.received[size..checks]);
+        let words = vec![
+            received.bytes("check-bytes", &self.received[checks..]),
+            word("proposed", &self.proposed).bytes("check-bytes", &self.proposed[checks..]),
+        ];
+        reply.below(Below::List("words", words)).list("places", &self.places, |&at| {
+            let row = Fields::default().number("place", at as u64).bytes("received", &self.received[at..=at]);
+            row.bytes("proposed", &self.proposed[at..=at])
+        })
     }
 }

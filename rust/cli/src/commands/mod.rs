@@ -5,31 +5,49 @@ mod channels;
 mod correction;
 mod crc;
 mod filter;
-mod frame;
+pub mod frame;
 mod header;
-mod line;
+pub mod line;
 mod mending;
-mod radio;
+mod picture;
+pub mod radio;
 pub mod store;
 mod sync;
 
 use crate::args::Args;
+use crate::fault::Fault;
+use crate::notation::shortened;
 use crate::reply::Reply;
+use crate::words::Word;
 
 pub struct Command {
-    name: &'static str,
-    usage: &'static str,
-    does: &'static str,
-    example: &'static str,
-    run: fn(Args) -> Result<Reply, String>,
+    pub name: &'static str,
+    pub usage: &'static str,
+    /// In a few words, for the list of commands.
+    pub does: &'static str,
+    /// What is to be known besides.
+    pub more: &'static str,
+    /// A line that is accepted.
+    pub example: &'static str,
+    run: fn(Args) -> Result<Reply, Fault>,
 }
 
-/// Every command, in the order in which `help` shows them.
-fn commands() -> impl Iterator<Item = &'static Command> {
+/// What `help` and the man page say of a command.
+pub struct Entry {
+    pub name: String,
+    pub usage: String,
+    pub does: &'static str,
+    pub more: &'static str,
+    pub example: String,
+}
+
+/// Every command but those on a store, in the order in which `help` shows them.
+pub fn commands() -> impl Iterator<Item = &'static Command> {
     let parts = [
         radio::COMMANDS,
         sync::COMMANDS,
         frame::COMMANDS,
+        picture::COMMANDS,
         correction::COMMANDS,
         mending::COMMANDS,
         crc::COMMANDS,
@@ -42,45 +60,144 @@ fn commands() -> impl Iterator<Item = &'static Command> {
     parts.into_iter().flatten()
 }
 
-pub fn run(line: &str) -> Result<String, String> {
-    let name = line.split_ascii_whitespace().next().unwrap_or("");
-    if name == "help" {
-        return Ok(help());
+pub fn entries() -> impl Iterator<Item = Entry> {
+    commands().map(|c| Entry {
+        name: c.name.into(),
+        usage: format!("{} {}", c.name, c.usage),
+        does: c.does,
+        more: c.more,
+        example: c.example.into(),
+    })
+}
+
+/// Runs one command on its words, the first of which is its name.
+pub fn run(words: &[Word]) -> Result<Reply, Fault> {
+    let Some(name) = words.first() else {
+        return Err(Fault::of_word(1, "a command is missing; help lists them"));
+    };
+    if name.text == "store" {
+        let why = "store works on files and is taken from the arguments alone: kusikhut store FILE ..";
+        return Err(Fault::of_word(1, why));
     }
-    if name == "store" {
-        return Err("word 1: store works on files and is taken from the arguments alone: kusikhut store FILE ..".into());
+    let command = commands().find(|c| c.name == name.text).ok_or_else(|| unknown(*name))?;
+    (command.run)(Args::of(words)).map_err(|why| why.in_command(format!("{} {}", command.name, command.usage)))
+}
+
+/// Whether a word is a command's name.
+pub fn is_command(name: &str) -> bool {
+    commands().any(|c| c.name == name)
+}
+
+fn unknown(name: Word) -> Fault {
+    Fault::of_word(name.at, format!("there is no command {}{}; help lists them", shortened(name.text), meant(name.text)))
+}
+
+/// A question for whoever mistyped a command's name by a letter or two.
+pub fn meant(name: &str) -> String {
+    const SLIP: usize = 2;
+    let names = commands().map(|c| c.name).chain(["store", "help"]);
+    let nearest = names.map(|known| (slips(known, name), known)).min();
+    // Two letters of a short name are not a slip.
+    let slipped = nearest.filter(|&(slips, known)| slips <= SLIP && slips < known.len() / 2);
+    slipped.map_or(String::new(), |(_, known)| format!(" (did you mean {known}?)"))
+}
+
+/// How many letters must be put in, left out or changed to make one word of the other.
+fn slips(one: &str, other: &str) -> usize {
+    let other: Vec<char> = other.chars().take(LONGEST_NAME).collect();
+    let mut row: Vec<usize> = (0..=other.len()).collect();
+    for (before, letter) in one.chars().enumerate() {
+        let mut above_left = std::mem::replace(&mut row[0], before + 1);
+        for (at, &there) in other.iter().enumerate() {
+            let changed = above_left + usize::from(letter != there);
+            above_left = row[at + 1];
+            row[at + 1] = changed.min(above_left + 1).min(row[at] + 1);
+        }
     }
-    let command = commands()
-        .find(|c| c.name == name)
-        .ok_or_else(|| format!("word 1: there is no command {name}; help lists them"))?;
-    match (command.run)(Args::of(line)) {
-        Ok(reply) => Ok(reply.line()),
-        Err(why) => Err(format!("{why}; usage: {} {}", command.name, command.usage)),
+    row[other.len()]
+}
+
+/// No command's name has as many letters.
+const LONGEST_NAME: usize = 24;
+
+/// The most bytes of received chips.
+const MOST_CHIP_BYTES: u64 = 1_024;
+
+/// An argument with a limit: its name, what was given, the limit.
+type Limited = (&'static str, u64, u64);
+
+/// Of 10, out-of-range, which argument is over its limit, and what the limit is.
+fn out_of_range(reply: Reply, arguments: &[Limited]) -> Reply {
+    match arguments.iter().find(|&&(_, given, limit)| given > limit) {
+        Some(&(name, given, limit)) => {
+            reply.if_number(10, |f| f.word("argument", name).number("given", given).number("limit", limit))
+        }
+        None => reply,
     }
 }
 
-fn help() -> String {
-    let mut text = String::from(
-        "Bytes and chips are hex digits, first chip in the highest bit; - is no bytes. Places, sizes and counts are decimal.\n\
-         room and fill say how many bytes are lent and what they hold before the call; lent= shows them after it.\n\
-         An answer is its number, its name, and every value as name=value; lines set in below it belong to it. error\n\
-         begins the answer to a line that could not be understood. Lines that begin with # are passed on.\n",
-    );
-    for c in commands() {
-        text += &format!("\n{} {}\n    {}\n    {}\n", c.name, c.usage, c.does, c.example);
-    }
-    text + "\n" + &store::help()
+fn chip_bytes(chips: &[u8]) -> Limited {
+    ("chip-bytes", chips.len() as u64, MOST_CHIP_BYTES)
+}
+
+/// The same for a call that goes through chips from a start on.
+fn with_chips(reply: Reply, chips: &[u8], start: usize) -> Reply {
+    out_of_range(reply, &[chip_bytes(chips), ("start", start as u64, 8 * chips.len() as u64)])
 }
 
 #[cfg(test)]
 mod tests {
     use super::*;
+    use crate::words::{of_line, Line};
 
-    /// Every example that `help` shows is a line that the program understands.
-    #[test]
-    fn examples_are_understood() {
-        for c in commands() {
-            assert!(run(c.example).is_ok(), "{}", c.example);
+    fn reply(line: &str) -> Reply {
+        match of_line(line.as_bytes()) {
+            Line::Words(words) => run(&words).unwrap_or_else(|why| panic!("{line}: {why}")),
+            other => panic!("{line}: {other:?}"),
         }
+    }
+
+    #[test]
+    fn slips_are_counted() {
+        let counted = [("read", "read"), ("read", "raed"), ("read", "red"), ("", "abc"), ("receive", "recieve")];
+        assert_eq!(counted.map(|(one, other)| slips(one, other)), [0, 2, 1, 3, 2]);
+        let questions = [" (did you mean receive?)", " (did you mean check?)", ""];
+        assert_eq!([meant("recieve"), meant("chek"), meant("x")], questions);
+        assert!(commands().all(|c| c.name.len() < LONGEST_NAME));
+    }
+
+    /// Every example that `help` shows is accepted.
+    #[test]
+    fn examples_are_accepted() {
+        for c in commands() {
+            assert!(reply(c.example).all_accepted(), "{}", c.example);
+        }
+    }
+
+    /// The limits that a refusal names are the library's: it accepts up to them and refuses beyond them.
+    #[test]
+    fn limits_are_the_librarys() {
+        let at = |line: &str, number: u8| assert_eq!(reply(line).number, number, "{line}");
+        at("update FFFF 00 01 125", 0);
+        at("update FFFF 00 01 126", 10);
+        at("search +1024*00", 7);
+        at("search +1025*00", 10);
+        at("search 00 start=8", 7);
+        at("search 00 start=9", 10);
+        at("word nrz 0000 8", 0);
+        at("word nrz 00 8", 1);
+        at("word nrz 00 9", 10);
+        let entries = |count| format!("filter 44+8*00{}", " 0000000000000000".repeat(count));
+        at(&entries(16), 0);
+        at(&entries(17), 10);
+        at("filter +8*00", 5);
+        for (format, most) in [("A", 255), ("B", 251)] {
+            at(&format!("write {format} +9*00"), 5);
+            at(&format!("write {format} +10*00"), 0);
+            at(&format!("write {format} +{most}*00"), 0);
+            at(&format!("write {format} +{}*00", most + 1), 5);
+        }
+        at("check-bytes +223*00", 0);
+        at("check-bytes +224*00", 23);
     }
 }

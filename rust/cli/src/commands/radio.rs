@@ -1,72 +1,139 @@
 //! Frames as chips: receive and send.
-use super::Command;
-use crate::args::Args;
-use crate::reply::Reply;
-use kusikhut::{Kind, Received};
+use super::frame::content_length;
+use super::{with_chips, Command};
+use crate::anatomy::OnAir;
+use crate::args::{Args, Lent};
+use crate::fault::Fault;
+use crate::reply::{Fields, Reply};
+use kusikhut::{Code, Format, Kind, Received, Refusal};
 
 pub const COMMANDS: &[Command] = &[
     Command {
         name: "receive",
-        usage: "CHIPS [start=0] [allowance=ALL] [room=255] [fill=00]",
+        usage: "CHIPS [start=0] [allowance=ALL] [room=255] [fill=00] [show=lent]",
         does: "search a mode T or C frame in the chips and read it",
-        example: "receive 543D543D1444AE0C7856341201078C2027780B134365877AC5",
+        more: "The search begins at chip start= and tries at most allowance= places. kind= says mode and \
+               format, place= where the sync word stands, size= how many bytes the frame has; content= is what \
+               the meter says, n= bytes without length byte and checks.",
+        example: "receive 543D5A971C9B25B44EC65A2DC34E58D59371C7134EC5A334B70B699B133726B1",
         run: receive,
     },
     Command {
         name: "manchester",
-        usage: "CHIPS [start=0] [room=255] [fill=00]",
+        usage: "CHIPS [start=0] [room=255] [fill=00] [show=lent]",
         does: "read the Manchester frame that starts at a chip",
-        example: "manchester AA559A9A start=0",
+        more: "As in mode S, whose sync word is not looked for: start= names the chip.",
+        example: "manchester AA559A9A6656AA5A956A9996A59AA9A6AAA9AA959A9A9A95956AAA65A9A59AA596996A95A9569659",
         run: manchester,
     },
     Command {
         name: "send",
-        usage: "KIND CONTENT [room=600] [fill=00]",
-        does: "write the content as chips; KIND is T-A, C-A, C-B or Manchester-A",
+        usage: "KIND CONTENT [room=600] [fill=00] [show=lent]",
+        does: "write a content as chips",
+        more: "KIND is T-A, C-A, C-B or Manchester-A: the mode or line code, and the format.",
         example: "send T-A 44AE0C785634120107780B13436587",
         run: send,
     },
 ];
 
-const KINDS: [(&str, Kind); 4] =
+pub const KINDS: [(&str, Kind); 4] =
     [("T-A", Kind::TWithA), ("C-A", Kind::CWithA), ("C-B", Kind::CWithB), ("Manchester-A", Kind::ManchesterWithA)];
 
-fn kind_name(kind: Kind) -> &'static str {
+pub fn kind_name(kind: Kind) -> &'static str {
     KINDS.iter().find(|&&(_, k)| k == kind).map_or("", |&(name, _)| name)
 }
 
-fn tell_received(reply: Reply, got: Received) -> Reply {
-    reply
-        .field("kind", kind_name(got.kind))
-        .field("place", got.place)
-        .field("tried", got.tried)
-        .field("size", got.size)
-        .field("n", got.n)
+pub fn format_of(kind: Kind) -> Format {
+    match kind {
+        Kind::CWithB => Format::B,
+        Kind::TWithA | Kind::CWithA | Kind::ManchesterWithA => Format::A,
+    }
 }
 
-fn receive(mut a: Args) -> Result<Reply, String> {
-    let chips = a.bytes("CHIPS")?;
-    let (start, allowance) = (a.option("start", 0)?, a.option("allowance", usize::MAX)?);
-    let mut lent = a.lent(255)?;
-    a.end()?;
-    let answer = kusikhut::receive(&chips, start, allowance, &mut lent.bytes);
-    Ok(Reply::of(answer, tell_received).lent(&lent))
+pub fn code_of(kind: Kind) -> Code {
+    match kind {
+        Kind::TWithA => Code::ThreeOfSix,
+        Kind::CWithA | Kind::CWithB => Code::Nrz,
+        Kind::ManchesterWithA => Code::Manchester,
+    }
 }
 
-fn manchester(mut a: Args) -> Result<Reply, String> {
-    let chips = a.bytes("CHIPS")?;
-    let start = a.option("start", 0)?;
-    let mut lent = a.lent(255)?;
-    a.end()?;
-    let answer = kusikhut::receive_manchester(&chips, start, &mut lent.bytes);
-    Ok(Reply::of(answer, tell_received).lent(&lent))
+/// A reception that is asked for: the chips, and where in them.
+pub struct Asked {
+    chips: Vec<u8>,
+    start: usize,
+    /// How many places may be searched; without a search the frame begins at the start.
+    allowance: Option<usize>,
+    lent: Lent,
 }
 
-fn send(mut a: Args) -> Result<Reply, String> {
+impl Asked {
+    pub fn with_search(mut a: Args) -> Result<Asked, Fault> {
+        let chips = a.last_bytes("CHIPS")?;
+        let (start, allowance) = (a.option_number("start", 0)?, a.option_number("allowance", usize::MAX)?);
+        let lent = a.lent(255)?;
+        a.end()?;
+        Ok(Asked { chips, start, allowance: Some(allowance), lent })
+    }
+
+    pub fn at_named_chip(mut a: Args) -> Result<Asked, Fault> {
+        let chips = a.last_bytes("CHIPS")?;
+        let start = a.option_number("start", 0)?;
+        let lent = a.lent(255)?;
+        a.end()?;
+        Ok(Asked { chips, start, allowance: None, lent })
+    }
+
+    fn call(&self, out: &mut [u8]) -> Result<Received, Refusal> {
+        match self.allowance {
+            Some(allowance) => kusikhut::receive(&self.chips, self.start, allowance, out),
+            None => kusikhut::receive_manchester(&self.chips, self.start, out),
+        }
+    }
+
+    /// What stands where in the chips, also if they are refused.
+    pub fn on_air(&self) -> OnAir<'_> {
+        match self.allowance {
+            Some(allowance) => OnAir::searched(&self.chips, self.start, allowance),
+            None => OnAir::named(&self.chips, self.start),
+        }
+    }
+
+    /// What receiving answers. Of chips that end too early it is said how many are missing, of a length byte that is not
+    /// allowed which it is, and where the room was too small, how much is needed, by the same call with enough.
+    pub fn answer(&mut self) -> Reply {
+        let mut out = std::mem::take(&mut self.lent.bytes);
+        let answer = self.call(&mut out);
+        self.lent.bytes = out;
+        let reply = Reply::of(answer, |f, got| self.lent.result(received(f, got), "content", got.n));
+        let needs = || self.call(&mut [0; 255]).map_or(0, |got| got.n);
+        let reply = reply.if_number(4, |f| f.number("room", self.lent.room()).number("needs", needs()));
+        let reply = reply.if_number(1, |f| f.number("missing-chips", self.on_air().missing()));
+        let reply = reply.if_number(2, |f| f.number("l", self.on_air().length_byte().map_or(0, u64::from)));
+        with_chips(reply, &self.chips, self.start).with(|f| self.lent.all(f))
+    }
+}
+
+fn receive(a: Args) -> Result<Reply, Fault> {
+    Ok(Asked::with_search(a)?.answer())
+}
+
+fn manchester(a: Args) -> Result<Reply, Fault> {
+    Ok(Asked::at_named_chip(a)?.answer())
+}
+
+fn received(fields: Fields, got: Received) -> Fields {
+    let fields = fields.word("kind", kind_name(got.kind)).number("place", got.place).number("tried", got.tried);
+    fields.number("size", got.size).number("n", got.n)
+}
+
+fn send(mut a: Args) -> Result<Reply, Fault> {
     let kind = a.choice("KIND", &KINDS)?;
-    let content = a.bytes("CONTENT")?;
+    let content = a.last_bytes("CONTENT")?;
     let mut lent = a.lent(600)?;
     a.end()?;
-    let answer = kind.send(&content, &mut lent.bytes);
-    Ok(Reply::of(answer, |reply, size| reply.field("bytes", size)).lent(&lent))
+    let reply = Reply::of(kind.send(&content, &mut lent.bytes), |f, size| lent.result(f.number("size", size), "chips", size));
+    let needs = || kind.send(&content, &mut [0; 600]).unwrap_or(0);
+    let reply = reply.if_number(4, |f| f.number("room", lent.room()).number("needs", needs()));
+    Ok(content_length(reply, format_of(kind), &content).with(|f| lent.all(f)))
 }

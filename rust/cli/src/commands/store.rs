@@ -1,8 +1,12 @@
 //! The settings store in a file: `store FILE COMMAND ..`. Each command opens the file, makes one call and ends; what it
 //! prints is on the disk before.
+use super::address::maker;
 use super::frame::FORMATS;
+use super::Entry;
 use crate::args::Args;
-use crate::reply::{shown, Reply};
+use crate::fault::Fault;
+use crate::reply::{Fields, Reply};
+use crate::words::Word;
 use kusikhut::{Format, Meter, Mode, Restored, Settings, Store, StoreFault, StoreFile};
 use std::io;
 use std::path::Path;
@@ -12,51 +16,58 @@ struct StoreCommand {
     name: &'static str,
     usage: &'static str,
     does: &'static str,
+    more: &'static str,
     example: &'static str,
     run: fn(&Path, Args) -> Result<Reply, Fault>,
 }
 
-/// Every command, in the order in which `help` shows them.
+/// In the order in which `help` shows them.
 const COMMANDS: [StoreCommand; 9] = [
     StoreCommand {
         name: "new",
         usage: "",
-        does: "a store without meters, in a new file",
+        does: "make a store without meters",
+        more: "In a new file; one that is there stays.",
         example: "new",
         run: new,
     },
     StoreCommand {
         name: "show",
         usage: "",
-        does: "all that the store holds, a line for each meter",
+        does: "all that a store holds",
+        more: "A line for each meter.",
         example: "show",
         run: show,
     },
     StoreCommand {
         name: "add",
         usage: "METER MODE FORMAT",
-        does: "add a meter, unsure and at number 0; of one that is held set mode (R, S, T, C, N or F) and format",
+        does: "add a meter, or set its mode and format",
+        more: "One that is new is unsure and at number 0. MODE is R, S, T, C, N or F.",
         example: "add AE0C785634120107 T A",
         run: add,
     },
     StoreCommand {
         name: "hear",
         usage: "METER NUMBER",
-        does: "a number was heard from the meter: it is sure, and keeps the larger number",
+        does: "a number was heard from a meter",
+        more: "The meter is sure then, and keeps the larger number.",
         example: "hear AE0C785634120107 1000",
         run: hear,
     },
     StoreCommand {
         name: "issue",
         usage: "METER",
-        does: "the next number for the meter",
+        does: "the next number for a meter",
+        more: "It is saved before it is printed.",
         example: "issue AE0C785634120107",
         run: issue,
     },
     StoreCommand {
         name: "look-up",
         usage: "METER",
-        does: "what is held of the meter",
+        does: "what is held of a meter",
+        more: "",
         example: "look-up AE0C785634120107",
         run: look_up,
     },
@@ -64,65 +75,52 @@ const COMMANDS: [StoreCommand; 9] = [
         name: "allowance",
         usage: "[NUMBER]",
         does: "show the position allowance, or set it",
+        more: "",
         example: "allowance 20000",
         run: allowance,
     },
     StoreCommand {
         name: "backup",
         usage: "TO",
-        does: "write the store as a backup, to a new file",
+        does: "write a backup",
+        more: "To a new file; one that is there stays.",
         example: "backup monday.backup",
         run: backup,
     },
     StoreCommand {
         name: "restore",
         usage: "BACKUP",
-        does: "bring a backup into the store, turning no number back; what= says what became of each meter",
+        does: "bring a backup into a store",
+        more: "No number is turned back; what= says what became of each meter.",
         example: "restore monday.backup",
         run: restore,
     },
 ];
 
-const MODES: [(&str, Mode); 6] =
+pub const MODES: [(&str, Mode); 6] =
     [("R", Mode::R), ("S", Mode::S), ("T", Mode::T), ("C", Mode::C), ("N", Mode::N), ("F", Mode::F)];
 
-/// Why a command has no answer of the library's.
-enum Fault {
-    /// Its words are wrong.
-    Words(String),
-    /// A file could not be read or written.
-    File(String),
-}
+/// The largest session number, and the largest allowance.
+const LARGEST: usize = u32::MAX as usize;
 
-impl From<String> for Fault {
-    fn from(why: String) -> Fault {
-        Fault::Words(why)
-    }
-}
-
-impl Fault {
-    fn of_file(path: &Path, why: &io::Error) -> Fault {
-        let why = match why.kind() {
-            io::ErrorKind::NotFound => "there is no such file or folder".into(),
-            io::ErrorKind::AlreadyExists => "a file is there already, and stays as it is".into(),
-            _ => why.to_string(),
-        };
-        Fault::File(format!("{}: {why}", path.display()))
-    }
+/// A file could not be read or written.
+fn of_file(path: &Path, why: &io::Error) -> Fault {
+    let why = match why.kind() {
+        io::ErrorKind::NotFound => "there is no such file or folder".into(),
+        io::ErrorKind::AlreadyExists => "a file is there already, and stays as it is".into(),
+        _ => why.to_string(),
+    };
+    Fault::of_line(format!("{}: {why}", crate::notation::tame(&path.display().to_string())))
 }
 
 /// Runs `store FILE COMMAND ..`, given as one argument for each word.
-pub fn run(arguments: &[String]) -> Result<String, String> {
-    let mut a = Args::plain(arguments);
-    let (file, command) = chosen(&mut a).map_err(|why| format!("{why}; usage: store FILE COMMAND .."))?;
-    match (command.run)(file, a) {
-        Ok(reply) => Ok(reply.line()),
-        Err(Fault::Words(why)) => Err(format!("{why}; usage: {}", usage(&command))),
-        Err(Fault::File(why)) => Err(why),
-    }
+pub fn run(words: &[Word]) -> Result<Reply, Fault> {
+    let mut a = Args::plain(words);
+    let (file, command) = chosen(&mut a).map_err(|why| why.in_command("store FILE COMMAND ..".into()))?;
+    (command.run)(file, a).map_err(|why| why.in_command(usage(&command)))
 }
 
-fn chosen<'a>(a: &mut Args<'a>) -> Result<(&'a Path, StoreCommand), String> {
+fn chosen<'a>(a: &mut Args<'a>) -> Result<(&'a Path, StoreCommand), Fault> {
     Ok((a.path("FILE")?, a.choice("COMMAND", &COMMANDS.map(|c| (c.name, c)))?))
 }
 
@@ -130,17 +128,24 @@ fn usage(command: &StoreCommand) -> String {
     format!("store FILE {} {}", command.name, command.usage).trim_end().into()
 }
 
-pub fn help() -> String {
-    let mut text = String::from(
-        "Commands on a store are taken from the arguments alone. FILE is a collector's own store and no backup; a\n\
-         number is saved in it before it is printed, and programs that change it wait for each other. METER is M\n\
-         and A as received, 16 hex digits. error also begins the answer where a file cannot be read or written.\n",
-    );
-    for c in COMMANDS {
-        text += &format!("\n{}\n    {}\n    store desk.store {}\n", usage(&c), c.does, c.example);
-    }
-    text.pop();
-    text
+/// What `help` says of them all.
+pub const ABOUT: &str = "Commands on a store work on a file and are taken from the arguments alone. FILE is a collector's own \
+                         store and no backup; a number is saved in it before it is printed, and programs that change it \
+                         wait for each other. METER is M and A as received, 8 bytes.";
+
+pub fn entries() -> impl Iterator<Item = Entry> {
+    COMMANDS.into_iter().map(|c| Entry {
+        name: format!("store FILE {}", c.name),
+        usage: usage(&c),
+        does: c.does,
+        more: c.more,
+        example: format!("store desk.store {}", c.example),
+    })
+}
+
+/// The names of the commands behind `store FILE`.
+pub fn names() -> impl Iterator<Item = &'static str> {
+    COMMANDS.into_iter().map(|c| c.name)
 }
 
 /// What was accepted, told by `tell`, or why there is nothing to tell.
@@ -155,7 +160,7 @@ fn told<T>(path: &Path, answer: Result<T, StoreFault>, tell: impl FnOnce(Reply, 
 fn failed(path: &Path, why: StoreFault) -> Result<Reply, Fault> {
     match why {
         StoreFault::Refused(refusal) => Ok(Reply::refused(refusal)),
-        StoreFault::File(why) => Err(Fault::of_file(path, &why)),
+        StoreFault::File(why) => Err(of_file(path, &why)),
     }
 }
 
@@ -167,7 +172,7 @@ fn new(file: &Path, a: Args) -> Result<Reply, Fault> {
 fn show(file: &Path, a: Args) -> Result<Reply, Fault> {
     a.end()?;
     told(file, StoreFile::open(file).and_then(|store| store.settings()), |reply, settings| {
-        tell_settings(reply, &settings).list(&settings.meters, |row, meter| tell_meter(row_of(row, meter), meter))
+        reply.with(|f| tell_settings(f, &settings)).list("held", &settings.meters, |meter| tell_meter(row_of(meter), meter))
     })
 }
 
@@ -179,7 +184,7 @@ fn add(file: &Path, mut a: Args) -> Result<Reply, Fault> {
 }
 
 fn hear(file: &Path, mut a: Args) -> Result<Reply, Fault> {
-    let (meter, number) = (a.fixed::<8>("METER")?, a.short_number("NUMBER")?);
+    let (meter, number) = (a.fixed::<8>("METER")?, a.number_to("NUMBER", LARGEST)? as u32);
     a.end()?;
     told(file, StoreFile::open(file).and_then(|store| store.hear(meter, number)), |reply, ()| reply)
 }
@@ -188,22 +193,22 @@ fn issue(file: &Path, mut a: Args) -> Result<Reply, Fault> {
     let meter = a.fixed::<8>("METER")?;
     a.end()?;
     let answer = StoreFile::open(file).and_then(|store| store.issue(meter));
-    told(file, answer, |reply, number| reply.field("number", number))
+    told(file, answer, |reply, number| reply.with(|f| f.number("number", number.into())))
 }
 
 fn look_up(file: &Path, mut a: Args) -> Result<Reply, Fault> {
     let meter = a.fixed::<8>("METER")?;
     a.end()?;
     let answer = StoreFile::open(file).and_then(|store| store.look_up(meter));
-    told(file, answer, |reply, meter| tell_meter(reply, &meter))
+    told(file, answer, |reply, meter| reply.with(|f| tell_meter(f, &meter)))
 }
 
 fn allowance(file: &Path, mut a: Args) -> Result<Reply, Fault> {
     if !a.more() {
         let answer = StoreFile::open(file).and_then(|store| store.settings());
-        return told(file, answer, |reply, settings| reply.field("allowance", settings.allowance));
+        return told(file, answer, |reply, settings| reply.with(|f| f.number("allowance", settings.allowance.into())));
     }
-    let allowance = a.short_number("NUMBER")?;
+    let allowance = a.number_to("NUMBER", LARGEST)? as u32;
     a.end()?;
     told(file, StoreFile::open(file).and_then(|store| store.set_allowance(allowance)), |reply, ()| reply)
 }
@@ -223,33 +228,29 @@ fn restore(file: &Path, mut a: Args) -> Result<Reply, Fault> {
     a.end()?;
     let store = match StoreFile::open(file) {
         Ok(store) => store,
-        Err(why) => return failed(file, why).map(|reply| reply.field("in", "FILE")),
+        Err(why) => return failed(file, why).map(|reply| reply.with(|f| f.word("in", "FILE"))),
     };
-    let bytes = kusikhut::read_store(backup).map_err(|why| Fault::of_file(backup, &why))?;
+    let bytes = kusikhut::read_store(backup).map_err(|why| of_file(backup, &why))?;
     let mut alone = Store::empty();
     if let Err(refusal) = alone.restore(&bytes) {
-        return Ok(Reply::refused(refusal).field("in", "BACKUP"));
+        return Ok(Reply::refused(refusal).with(|f| f.word("in", "BACKUP")));
     }
     told(file, store.restore(&bytes), |reply, restored| tell_restored(reply, &restored, &alone.settings()))
 }
 
-fn tell_settings(reply: Reply, settings: &Settings) -> Reply {
-    reply.field("allowance", settings.allowance).field("meters", settings.meters.len())
+fn tell_settings(fields: Fields, settings: &Settings) -> Fields {
+    fields.number("allowance", settings.allowance.into()).number("meters", settings.meters.len() as u64)
 }
 
 /// A row begins with the meter that it is about.
-fn row_of(row: Reply, meter: &Meter) -> Reply {
-    row.field("meter", shown(&meter.address))
+fn row_of(meter: &Meter) -> Fields {
+    Fields::default().bytes("meter", &meter.address)
 }
 
-fn tell_meter(reply: Reply, meter: &Meter) -> Reply {
-    let m = u16::from_le_bytes([meter.address[0], meter.address[1]]);
-    reply
-        .field("letters", super::address::letters_of(m))
-        .field("mode", mode_name(meter.mode))
-        .field("format", format_name(meter.format))
-        .field("number", meter.number)
-        .field("unsure", if meter.unsure { "yes" } else { "no" })
+fn tell_meter(fields: Fields, meter: &Meter) -> Fields {
+    let fields = maker(fields, [meter.address[0], meter.address[1]]).word("mode", mode_name(meter.mode));
+    let fields = fields.word("format", format_name(meter.format)).number("number", meter.number.into());
+    fields.is("unsure", meter.unsure)
 }
 
 fn mode_name(mode: Mode) -> &'static str {
@@ -261,10 +262,11 @@ fn format_name(format: Format) -> &'static str {
 }
 
 fn tell_restored(reply: Reply, restored: &Restored, backup: &Settings) -> Reply {
-    let reply = tell_settings(reply, &restored.after).field("allowance-was", restored.before.allowance);
-    reply.list(&restored.after.meters, |row, meter| {
+    let allowance_was = restored.before.allowance.into();
+    let reply = reply.with(|f| tell_settings(f, &restored.after).number("allowance-was", allowance_was));
+    reply.list("held", &restored.after.meters, |meter| {
         let what = what_changed(find(&restored.before, meter), find(backup, meter), meter);
-        tell_meter(row_of(row, meter), meter).field("what", what)
+        tell_meter(row_of(meter), meter).word("what", what)
     })
 }
 
@@ -303,12 +305,12 @@ mod tests {
             false => word.to_string(),
         };
         let answers = COMMANDS.map(|c| {
-            let words = format!("store desk.store {}", c.example);
-            run(&words.split(' ').map(here).collect::<Vec<String>>())
+            let words: Vec<String> = format!("store desk.store {}", c.example).split(' ').map(here).collect();
+            run(&crate::words::of_arguments(&words))
         });
         std::fs::remove_dir_all(&folder).expect("it is ours");
-        for answer in answers {
-            assert!(answer.as_ref().is_ok_and(|text| text.starts_with("0 accepted")), "{answer:?}");
+        for (answer, command) in answers.iter().zip(COMMANDS) {
+            assert!(answer.as_ref().is_ok_and(Reply::all_accepted), "{}", command.example);
         }
     }
 }
