@@ -266,6 +266,40 @@ def with_tables(page, tables):
     return lines
 
 
+def misplaced(house, believed):
+    """The definitions that do not stand where a reader looks for them, and the names that lead nowhere."""
+    for key, by in sorted(believed.items()):
+        item = house.defined[key]
+        if "/proofs/" in item.path:
+            yield f"{by.path}: {by.name}: `{item.name}` stands in {item.path}, not in specs/"
+        if item.path.endswith("/Inner.antt"):
+            yield f"{by.path}: {by.name}: `{item.name}` of {item.path} has to be believed after all"
+    inner = house.reached(house.inner)
+    for key, item in sorted(house.defined.items()):
+        cited = key in believed or item.path.endswith("/Inner.antt") and key in inner
+        if "/specs/" in item.path and not cited and item.path != DEMANDS:
+            yield f"{item.path}: `{item.name}` is reached by nothing"
+    yield from sorted(set(house.open))
+
+
+def unpublished(tables):
+    """The rows that docs/BELIEVED.md does not have."""
+    published = PUBLISHED.read_text(encoding="utf-8").splitlines()
+    return [f"{PUBLISHED} lacks the line: {row}" for rows in tables for row in rows if row not in published]
+
+
+def unsaid(order):
+    """The sum of what is to be read for frames, if README.md has another."""
+    of_frames = f"{sum(lines for _, lines in order)} lines of definitions in {len(order)} files"
+    said = of_frames in " ".join(README.read_text(encoding="utf-8").split())
+    return [] if said else [f"{README} does not say {of_frames}"]
+
+
+def publish(tables):
+    lines = with_tables(PUBLISHED.read_text(encoding="utf-8").splitlines(), tables)
+    PUBLISHED.write_text("\n".join(lines) + "\n", encoding="utf-8")
+
+
 def main(arguments):
     house = House()
     demands = house.reached(statements(DEMANDS))
@@ -273,19 +307,7 @@ def main(arguments):
     pages = {**starred, **demands}
     contracts = house.reached(house.public)
     believed = {**contracts, **pages}
-    faults = []
-    for key, by in sorted(believed.items()):
-        item = house.defined[key]
-        if "/proofs/" in item.path:
-            faults.append(f"{by.path}: {by.name}: `{item.name}` stands in {item.path}, not in specs/")
-        if item.path.endswith("/Inner.antt"):
-            faults.append(f"{by.path}: {by.name}: `{item.name}` of {item.path} has to be believed after all")
-    inner = house.reached(house.inner)
-    for key, item in sorted(house.defined.items()):
-        cited = key in believed or item.path.endswith("/Inner.antt") and key in inner
-        if "/specs/" in item.path and not cited and item.path != DEMANDS:
-            faults.append(f"{item.path}: `{item.name}` is reached by nothing")
-    faults += sorted(set(house.open))
+    faults = list(misplaced(house, believed))
     records = [item for item in statements(DEMANDS) if TYPE.match(item.text[0])]
     rows = table([(f"`{item.name}`", house.figures(house.reached([item]))) for item in records] + [
         ("the demands", house.figures(demands)),
@@ -294,19 +316,14 @@ def main(arguments):
         ("the contracts of all public functions", house.figures(contracts)),
         ("all of these", house.figures(believed)),
     ])
+    order = reading_order(house, {key for item in records if item.name in OF_FRAMES for key in house.reached([item])})
+    tables = [rows, order_table(order)]
     if "--list" in arguments:
         for key, by in sorted(believed.items()):
             print(f"{house.defined[key].path}: {key[1]}, named by {by.path}: {by.name}")
-    order = reading_order(house, {key for item in records if item.name in OF_FRAMES for key in house.reached([item])})
-    tables = [rows, order_table(order)]
-    published = PUBLISHED.read_text(encoding="utf-8").splitlines()
     if "--write" in arguments:
-        published = with_tables(published, tables)
-        PUBLISHED.write_text("\n".join(published) + "\n", encoding="utf-8")
-    faults += [f"{PUBLISHED} lacks the line: {row}" for rows in tables for row in rows if row not in published]
-    of_frames = f"{sum(lines for _, lines in order)} lines of definitions in {len(order)} files"
-    if of_frames not in " ".join(README.read_text(encoding="utf-8").split()):
-        faults.append(f"{README} does not say {of_frames}")
+        publish(tables)
+    faults += unpublished(tables) + unsaid(order)
     for fault in faults:
         print(fault)
     definitions, lines, files = house.figures(demands)[:3]

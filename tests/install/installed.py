@@ -4,6 +4,7 @@ installed.py ROOT PREFIX: the files stand below ROOT (DESTDIR and prefix), and s
 installed.py flags ROOT PREFIX: what a compiler needs to know, for a shell, by pkg-config if it is there.
 installed.py self-test ROOT PREFIX: each fault, planted in a copy of ROOT, is found.
 Called in the repository's own folder."""
+import os
 import re
 import shlex
 import shutil
@@ -65,10 +66,13 @@ def package(root):
 
 def pkg_config(root, *words):
     """What pkg-config says, or None where there is none."""
-    if not shutil.which("pkg-config"):
+    found = shutil.which("pkg-config")
+    if not found:
         return None
-    environment = {"PATH": "/usr/bin:/bin:/usr/local/bin", "PKG_CONFIG_LIBDIR": str(root / "lib/pkgconfig")}
-    done = subprocess.run(["pkg-config", *words, "kusikhut"], capture_output=True, text=True, env=environment)
+    # none of the caller's own folders and roots, which could have another kusikhut.pc
+    environment = {name: value for name, value in os.environ.items() if not name.startswith("PKG_CONFIG_")}
+    environment["PKG_CONFIG_LIBDIR"] = str(root / "lib/pkgconfig")
+    done = subprocess.run([found, *words, "kusikhut"], capture_output=True, text=True, env=environment)
     return (done.stdout + done.stderr).strip()
 
 

@@ -2,6 +2,8 @@
 //! one. All of it is found by calls of the library, so that nothing here decides what a frame is.
 use crate::commands::line::chips_a_byte;
 use crate::commands::radio::{code_of, format_of};
+use crate::numbers;
+use crate::reply::Missing;
 use kusikhut::{Code, Format, Kind};
 
 /// The chips of a sync word, and of the tail behind it.
@@ -49,14 +51,17 @@ impl<'a> OnAir<'a> {
         8 * self.chips.len()
     }
 
-    /// How many chips are missing before the next step of receiving can be made.
-    pub fn missing(&self) -> u64 {
-        let needed = match (self.frame, self.sync) {
-            (Some(frame), _) => frame.first + frame.chips_a_byte() * self.cells().map_or(1, |cells| cells.len()),
-            (None, Some(sync)) => sync + 2 * SYNC,
-            (None, None) => 0,
+    /// How many chips are missing to the frame's end, or before it is known where that is.
+    pub fn missing(&self) -> Missing {
+        let to = |end: usize| end.saturating_sub(self.count()) as u64;
+        let Some(frame) = self.frame else {
+            return Missing::AtLeast(self.sync.map_or(0, |sync| to(sync + 2 * SYNC)));
         };
-        needed.saturating_sub(self.count()) as u64
+        let bytes = |count: usize| to(frame.first + count * frame.chips_a_byte());
+        match self.length_byte().and_then(|l| format_of(frame.kind).frame_size(l).ok()) {
+            Some(size) => Missing::Exactly(bytes(size as usize)),
+            None => Missing::AtLeast(bytes(1)),
+        }
     }
 
     pub fn length_byte(&self) -> Option<u8> {
@@ -111,7 +116,7 @@ fn cells(format: Format, cell: impl Fn(usize) -> Cell) -> Vec<Cell> {
 fn behind(chips: &[u8], sync: usize) -> Option<Placed> {
     let mut tail = [0; 2];
     Code::Nrz.decode(chips, sync + SYNC, tail.len(), &mut tail).ok()?;
-    if kusikhut::receive(chips, sync, 1, &mut []).is_err_and(|refusal| refusal.number() == UNKNOWN_TAIL) {
+    if kusikhut::receive(chips, sync, 1, &mut []).is_err_and(|refusal| refusal.number() == numbers::UNKNOWN_SYNC_TAIL) {
         return None;
     }
     let of_mode_c = [Kind::CWithA, Kind::CWithB].into_iter().find(|&kind| sent_tail(kind) == tail);
@@ -120,8 +125,6 @@ fn behind(chips: &[u8], sync: usize) -> Option<Placed> {
         None => Placed { kind: Kind::TWithA, first: sync + SYNC },
     })
 }
-
-const UNKNOWN_TAIL: u8 = 8;
 
 fn sent_tail(kind: Kind) -> [u8; 2] {
     let mut chips = [0; 64];
@@ -144,25 +147,29 @@ mod tests {
                 _ => OnAir::searched(chips, 0, usize::MAX),
             };
             for came in 5..=size {
-                let on_air = on_air(&sent[..came]);
-                let needed = 8 * came as u64 + on_air.missing();
-                assert_eq!(needed.div_ceil(8), size as u64, "{kind:?} {came}");
+                let Missing::Exactly(missing) = on_air(&sent[..came]).missing() else {
+                    panic!("{kind:?} {came}: the length byte is there");
+                };
+                assert_eq!((8 * came as u64 + missing).div_ceil(8), size as u64, "{kind:?} {came}");
             }
         }
     }
 
     #[test]
     fn short_of_a_tail() {
-        assert_eq!(OnAir::searched(&[0x54, 0x3D, 0x5A], 0, 1).missing(), 8);
-        assert_eq!(OnAir::searched(&[0x54, 0x3D], 0, 1).missing(), 16);
-        assert_eq!(OnAir::named(&[0x9A], 0).missing(), 8);
-        assert_eq!(OnAir::searched(&[0; 4], 0, 9).missing(), 0);
+        assert_eq!(OnAir::searched(&[0x54, 0x3D, 0x5A], 0, 1).missing(), Missing::AtLeast(8));
+        assert_eq!(OnAir::searched(&[0x54, 0x3D], 0, 1).missing(), Missing::AtLeast(16));
+        assert_eq!(OnAir::named(&[0x9A], 0).missing(), Missing::AtLeast(8));
+        assert_eq!(OnAir::searched(&[0; 4], 0, 9).missing(), Missing::AtLeast(0));
     }
 
     #[test]
     fn every_byte_is_seen() {
         let frame = [0x0F, 0x44, 0xAE];
-        assert_eq!(of_bytes(Format::A, &frame)[..4], [Cell::Byte(0x0F), Cell::Byte(0x44), Cell::Byte(0xAE), Cell::Missing]);
+        assert_eq!(
+            of_bytes(Format::A, &frame)[..4],
+            [Cell::Byte(0x0F), Cell::Byte(0x44), Cell::Byte(0xAE), Cell::Missing]
+        );
         assert_eq!(of_bytes(Format::A, &frame).len(), 20);
         assert_eq!(of_bytes(Format::A, &[9, 1]), [Cell::Byte(9), Cell::Byte(1)]);
         assert_eq!(of_bytes(Format::A, &[]), [Cell::Missing]);

@@ -30,12 +30,20 @@ impl Lent {
     /// The result at the start of the memory under its own name, whole, and how many bytes are left if `room` was given.
     pub fn result(&self, fields: Fields, name: &'static str, size: u64) -> Fields {
         let fields = fields.bytes(name, &self.bytes[..size as usize]);
-        if self.sized { fields.number("left", self.bytes.len() as u64 - size) } else { fields }
+        if self.sized {
+            fields.number("left", self.bytes.len() as u64 - size)
+        } else {
+            fields
+        }
     }
 
     /// All of the memory after the call, if the line asked for it.
     pub fn all(&self, fields: Fields) -> Fields {
-        if self.shown { fields.bytes("lent", &self.bytes) } else { fields }
+        if self.shown {
+            fields.bytes("lent", &self.bytes)
+        } else {
+            fields
+        }
     }
 
     pub fn room(&self) -> u64 {
@@ -47,7 +55,8 @@ impl<'a> Args<'a> {
     /// The words behind the command's name, which is word 1.
     pub fn of(words: &[Word<'a>]) -> Args<'a> {
         let (words_only, last) = (Vec::with_capacity(words.len()), words.len());
-        let mut args = Args { words: words_only, options: Vec::new(), taken: Vec::new(), next: 0, last, had_bytes: false };
+        let mut args =
+            Args { words: words_only, options: Vec::new(), taken: Vec::new(), next: 0, last, had_bytes: false };
         for word in words.iter().skip(1) {
             match word.text.split_once('=') {
                 Some((name, value)) => args.options.push((word.at, name, value)),
@@ -69,6 +78,11 @@ impl<'a> Args<'a> {
         word.ok_or_else(|| Fault::of_word(self.last + 1, format!("{what} is missing")))
     }
 
+    /// Which word of the line comes next.
+    pub fn place(&self) -> usize {
+        self.words.get(self.next).map_or(self.last + 1, |word| word.at)
+    }
+
     /// Bytes in one word.
     pub fn bytes(&mut self, what: &str) -> Result<Vec<u8>, Fault> {
         let word = self.word(what)?;
@@ -76,11 +90,19 @@ impl<'a> Args<'a> {
         read_bytes(word, what)
     }
 
-    /// Bytes in all the words that are left: where bytes come last, spaces between them need no quotation marks.
+    /// Bytes in all the words that are left: where bytes come last, spaces between them need no quotation marks. Several
+    /// words are taken only as people write bytes, in groups of the same few digits. Any other word is more likely a number
+    /// whose name was forgotten, or a second capture.
     pub fn last_bytes(&mut self, what: &str) -> Result<Vec<u8>, Fault> {
+        let first = self.words.get(self.next).map_or("", |word| word.text);
         let mut all = self.bytes(what)?;
         while self.more() {
             let word = self.word(what)?;
+            if !notation::is_group_like(word.text, first) {
+                let hint =
+                    "bytes in several words are groups of as many digits, 2 to 8; others stand in quotation marks";
+                return Err(Fault::of_word(word.at, format!("{} is one word too many; {hint}", shortened(word.text))));
+            }
             all.append(&mut read_bytes(word, what)?);
             notation::within_limit(all.len() as u64).map_err(|why| Fault::of_word(word.at, format!("{what} {why}")))?;
         }
@@ -122,7 +144,10 @@ impl<'a> Args<'a> {
         let word = self.word(what)?;
         from.iter().find(|(name, _)| name.eq_ignore_ascii_case(word.text)).map(|&(_, value)| value).ok_or_else(|| {
             let names: Vec<&str> = from.iter().map(|&(name, _)| name).collect();
-            Fault::of_word(word.at, format!("{what} is {} and must be one of {}", shortened(word.text), names.join(", ")))
+            Fault::of_word(
+                word.at,
+                format!("{what} is {} and must be one of {}", shortened(word.text), names.join(", ")),
+            )
         })
     }
 
@@ -144,7 +169,12 @@ impl<'a> Args<'a> {
         self.option(name).map_or(Ok(otherwise), |(at, text)| read_number(at, text, name))
     }
 
-    /// An option's bytes, where it is given.
+    /// An option's bytes, where it is given, as many as it has.
+    pub fn option_bytes(&mut self, name: &str) -> Result<Option<Vec<u8>>, Fault> {
+        self.option(name).map(|(at, text)| read_bytes(Word { at, text }, name)).transpose()
+    }
+
+    /// An option's bytes, where it is given: so many.
     pub fn option_fixed<const N: usize>(&mut self, name: &str) -> Result<Option<[u8; N]>, Fault> {
         self.option(name).map(|(at, text)| read_fixed(at, text, name)).transpose()
     }
@@ -177,7 +207,9 @@ impl<'a> Args<'a> {
             return Err(Fault::of_word(word.at, format!("{} is one word too many{hint}", shortened(word.text))));
         }
         match self.options.first() {
-            Some(&(at, name, _)) if self.taken.contains(&name) => Err(Fault::of_word(at, format!("{name} stands there twice"))),
+            Some(&(at, name, _)) if self.taken.contains(&name) => {
+                Err(Fault::of_word(at, format!("{name} stands there twice")))
+            }
             Some(&(at, name, _)) => Err(Fault::of_word(at, format!("this command has no option {}", shortened(name)))),
             None => Ok(()),
         }

@@ -61,11 +61,14 @@ pub fn of(arguments: impl IntoIterator<Item = String>) -> Result<(Flags, Request
     }
     // `help read --help` asks twice for the same.
     let topic = usize::from(words.first().is_some_and(|word| word == "help"));
-    Ok((flags, match asked {
-        Some(Request::Help(_)) => Request::Help(words.split_off(topic)),
-        Some(other) => other,
-        None => Request::Words(words),
-    }))
+    Ok((
+        flags,
+        match asked {
+            Some(Request::Help(_)) => Request::Help(words.split_off(topic)),
+            Some(other) => other,
+            None => Request::Words(words),
+        },
+    ))
 }
 
 #[cfg(test)]

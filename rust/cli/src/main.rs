@@ -12,6 +12,7 @@ mod help;
 mod json;
 mod lines;
 mod notation;
+mod numbers;
 mod picture;
 mod printer;
 mod reply;
@@ -24,6 +25,7 @@ use lines::{Broken, Line, Lines};
 use printer::{Outcome, Printer, Status};
 use std::fs::File;
 use std::io::{self, BufWriter, IsTerminal, Read, Write};
+use std::path::Path;
 use std::process::ExitCode;
 
 /// Why the program ends before its time.
@@ -44,18 +46,19 @@ fn main() -> ExitCode {
         }
     };
     let mut printer = Printer { out: BufWriter::with_capacity(lines::AT_ONCE, io::stdout().lock()), flags };
-    let done = answer(request, &mut printer).and_then(|status| {
-        printer.out.flush().map_err(Stop::Output)?;
-        Ok(status)
+    let mut status = Status::Accepted;
+    let done = answer(request, &mut printer).and_then(|answered| {
+        status = answered;
+        printer.out.flush().map_err(Stop::Output)
     });
     let status = match done {
-        Ok(status) => status,
+        Ok(()) => status,
         // A reader that went away (as `head` does) is no error of ours.
-        Err(Stop::Output(why)) if why.kind() == io::ErrorKind::BrokenPipe => Status::Accepted,
+        Err(Stop::Output(why)) if why.kind() == io::ErrorKind::BrokenPipe => status,
         Err(Stop::Output(why)) => failed(format!("the answer could not be written: {why}")),
         Err(Stop::Input(what, why)) => {
             let _ = printer.out.flush();
-            failed(format!("{what} cannot be read: {why}"))
+            failed(format!("{} cannot be read: {why}", notation::tame(&what)))
         }
     };
     // What is left in the buffer could not be written, and is not tried again.
@@ -80,10 +83,14 @@ fn answer(request: Request, printer: &mut Printer<impl Write>) -> Result<Status,
         Request::BashCompletion => tell(Outcome::Text("bash-completion", help::bash_completion()), printer),
         Request::Help(topic) => tell(help_on(&words::of_arguments(&topic)), printer),
         Request::Words(words) => match words.as_slice() {
-            [] => converse("standard input", io::stdin().lock(), printer),
-            [dash] if dash == "-" => converse("standard input", io::stdin().lock(), printer),
+            [] => from_standard_input(printer),
+            [dash] if dash == "-" => from_standard_input(printer),
             [line] if is_line(line) => tell(of_line(line.as_bytes()), printer),
             [file] if !is_command(file) => from_file(file, printer),
+            [file, ..] if !is_command(file) && Path::new(file).is_file() => {
+                let why = format!("{} is a file, and one file is read at a time", notation::shortened(file));
+                tell(Outcome::Fault(Fault::of_word(2, why)), printer)
+            }
             words => tell(of_arguments(&words::of_arguments(words)), printer),
         },
     }
@@ -134,12 +141,22 @@ fn of_line(line: &[u8]) -> Outcome {
     }
 }
 
+fn from_standard_input(printer: &mut Printer<impl Write>) -> Result<Status, Stop> {
+    if io::stdin().is_terminal() {
+        say(format_args!("A command a line; help lists them, and an end of file (Ctrl-D) ends it."));
+    }
+    converse("standard input", io::stdin().lock(), printer)
+}
+
 fn from_file(name: &str, printer: &mut Printer<impl Write>) -> Result<Status, Stop> {
     match File::open(name) {
         Ok(file) => converse(name, file, printer),
         Err(why) if why.kind() == io::ErrorKind::NotFound => {
+            // A name that is no text was changed on its way here: a file of that name may be there.
+            let is_text = !name.contains(char::REPLACEMENT_CHARACTER);
+            let file = if is_text { "no file of this name" } else { "a file's name must be UTF-8 text" };
             let (meant, name) = (commands::meant(name), notation::shortened(name));
-            let why = format!("there is no command {name}{meant}, and no file of this name; help lists the commands");
+            let why = format!("there is no command {name}{meant}, and {file}; help lists the commands");
             tell(Outcome::Fault(Fault::of_word(1, why)), printer)
         }
         Err(why) => Err(Stop::Input(name.into(), why)),
@@ -148,9 +165,6 @@ fn from_file(name: &str, printer: &mut Printer<impl Write>) -> Result<Status, St
 
 /// A command a line; an answer for each before the next one is waited for.
 fn converse(what: &str, input: impl Read, printer: &mut Printer<impl Write>) -> Result<Status, Stop> {
-    if what == "standard input" && io::stdin().is_terminal() {
-        say(format_args!("A command a line; help lists them, and an end of file (Ctrl-D) ends it."));
-    }
     let mut lines = Lines::of(input);
     let mut first_fault = Status::Accepted;
     loop {

@@ -8,6 +8,8 @@
 /// The most bytes of an argument, so that a short line with `+N*XX` in it cannot ask for all of memory.
 pub const MOST_BYTES: u64 = 65_536;
 
+pub const QUOTES: [char; 2] = ['"', '\''];
+
 /// What may stand between bytes.
 const BETWEEN: [char; 4] = [' ', '\t', ':', '_'];
 
@@ -32,9 +34,20 @@ pub fn bytes(text: &str) -> Result<Vec<u8>, String> {
     }
 }
 
+/// Whether a word is a group of digits like the first of its bytes: as long, and short as people write them.
+pub fn is_group_like(word: &str, first: &str) -> bool {
+    const LONGEST_GROUP: usize = 8;
+    let length = without_prefix(word).len();
+    length == without_prefix(first).len() && length <= LONGEST_GROUP && !first.contains('-') && !first.contains('+')
+}
+
 /// Whether an argument may have so many bytes.
 pub fn within_limit(size: u64) -> Result<(), String> {
-    if size > MOST_BYTES { Err(format!("has {size} bytes and may have at most {MOST_BYTES}")) } else { Ok(()) }
+    if size > MOST_BYTES {
+        Err(format!("has {size} bytes and may have at most {MOST_BYTES}"))
+    } else {
+        Ok(())
+    }
 }
 
 /// `N*XX` behind the plus sign: how many bytes, and which.
@@ -57,7 +70,12 @@ fn groups(text: &str) -> Result<Vec<u8>, String> {
         }
         all.extend(digits.as_bytes().chunks(2).map(|pair| digit(pair[0]) << 4 | digit(pair[1])));
     }
-    if all.is_empty() { Err("has no hex digit; - stands for no bytes".into()) } else { Ok(all) }
+    within_limit(all.len() as u64)?;
+    if all.is_empty() {
+        Err("has no hex digit; - stands for no bytes".into())
+    } else {
+        Ok(all)
+    }
 }
 
 /// What is wrong with a group: a character that is no digit, or half a byte.
@@ -66,7 +84,11 @@ fn fault(text: &str, group: &str, digits: &str) -> String {
         // The digits are a part of the text, so that their addresses tell where they begin in it.
         let begin = digits.as_ptr() as usize - text.as_ptr() as usize;
         let at = text[..begin + before].chars().count() + 1;
-        return format!("has {} as character {at}, which is no hex digit", shortened(odd.encode_utf8(&mut [0; 4])));
+        let hint = if QUOTES.contains(&odd) { "; quotation marks go around the whole word" } else { "" };
+        return format!(
+            "has {} as character {at}, which is no hex digit{hint}",
+            shortened(odd.encode_utf8(&mut [0; 4]))
+        );
     }
     let whole = if group == text { String::new() } else { format!(" in {}", shortened(group)) };
     format!("has {}{whole}; a byte is two", counted(digits.len(), "hex digit"))
@@ -93,7 +115,8 @@ pub fn number_to(text: &str, most: u64) -> Result<u64, String> {
     let hex = without_prefix(text);
     let (digits, radix) = if hex.len() < text.len() { (hex, 16) } else { (text, 10) };
     if digits.is_empty() || !digits.chars().all(|c| c.is_digit(radix)) {
-        let hex_meant = radix == 10 && text.len() <= 16 && !text.is_empty() && text.bytes().all(|b| b.is_ascii_hexdigit());
+        let hex_meant =
+            radix == 10 && text.len() <= 16 && !text.is_empty() && text.bytes().all(|b| b.is_ascii_hexdigit());
         let hint = if hex_meant { format!("; hex is written 0x{text}") } else { "; hex is written 0x1F".into() };
         return Err(format!("is {} and must be a decimal number{hint}", shortened(text)));
     }
@@ -109,7 +132,11 @@ pub fn digits_in(text: &str) -> Option<usize> {
 
 /// Bytes as hex digits, and no bytes as a minus sign.
 pub fn shown(bytes: &[u8]) -> String {
-    if bytes.is_empty() { "-".into() } else { hex(bytes) }
+    if bytes.is_empty() {
+        "-".into()
+    } else {
+        hex(bytes)
+    }
 }
 
 pub fn hex(bytes: &[u8]) -> String {
@@ -134,7 +161,12 @@ pub fn shortened(text: &str) -> String {
 
 /// `1 digit`, `2 digits`.
 pub fn counted(count: usize, thing: &str) -> String {
-    format!("{count} {thing}{}", if count == 1 { "" } else { "s" })
+    counted_as(count, thing, &format!("{thing}s"))
+}
+
+/// The same for a thing whose plural has no s alone.
+pub fn counted_as(count: usize, one: &str, many: &str) -> String {
+    format!("{count} {}", if count == 1 { one } else { many })
 }
 
 #[cfg(test)]
@@ -143,14 +175,17 @@ mod tests {
 
     #[test]
     fn one_rule_for_bytes() {
-        for text in ["0F44AE", "0f44ae", "0F 44 AE", "0F:44:AE", "0F_44_AE", "0x0F44AE", "0x0F 0x44 0xae", "0F44+1*AE"] {
+        for text in ["0F44AE", "0f44ae", "0F 44 AE", "0F:44:AE", "0F_44_AE", "0x0F44AE", "0x0F 0x44 0xae", "0F44+1*AE"]
+        {
             assert_eq!(bytes(text), Ok(vec![0x0F, 0x44, 0xAE]), "{text}");
         }
         assert_eq!(bytes("-"), Ok(vec![]));
         assert_eq!(bytes("+3*EE"), Ok(vec![0xEE; 3]));
         assert_eq!(bytes("44+0*00"), Ok(vec![0x44]));
         assert_eq!(bytes("00+65535*00"), Ok(vec![0; MOST_BYTES as usize]));
-        for text in ["", "4", "4G", "0F 4", "0x", ":", "+", "44+", "44+3", "44+3*", "44+3*0", "44+x*00", "44+65536*00", "ä"] {
+        for text in
+            ["", "4", "4G", "0F 4", "0x", ":", "+", "44+", "44+3", "44+3*", "44+3*0", "44+x*00", "44+65536*00", "ä"]
+        {
             assert!(bytes(text).is_err(), "{text}");
         }
     }
@@ -170,7 +205,10 @@ mod tests {
         assert_eq!([number("15"), number("0x0F"), number("0xf"), number("015")], [Ok(15), Ok(15), Ok(15), Ok(15)]);
         assert_eq!(number("18446744073709551615"), Ok(u64::MAX));
         assert_eq!(number_to("0x100", 255), Err("is 0x100 and may be at most 255".into()));
-        assert_eq!(number_to("18446744073709551616", 255), Err("is 18446744073709551616 and may be at most 255".into()));
+        assert_eq!(
+            number_to("18446744073709551616", 255),
+            Err("is 18446744073709551616 and may be at most 255".into())
+        );
         for text in ["", "0F", "-1", "+1", "1.5", "0x", "18446744073709551616", "0x10000000000000000", " 1"] {
             assert!(number(text).is_err(), "{text}");
         }

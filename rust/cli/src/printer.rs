@@ -56,7 +56,11 @@ impl<W: Write> Printer<W> {
     /// A line of nothing but a comment is passed on, so that a file of commands can say what it shows. JSON has no
     /// comments.
     pub fn comment(&mut self, comment: &str, line: u64) -> io::Result<()> {
-        if self.flags.json { Ok(()) } else { text::comment(comment, self.lead(line), &mut self.out) }
+        if self.flags.json {
+            Ok(())
+        } else {
+            text::comment(comment, self.lead(line), &mut self.out)
+        }
     }
 
     fn lead(&self, line: u64) -> Lead {

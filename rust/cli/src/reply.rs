@@ -12,6 +12,13 @@ pub enum Value {
     None,
 }
 
+/// How much is missing. Where the length byte did not come, nobody knows how much more will be.
+#[derive(Clone, Copy, Debug, PartialEq, Eq)]
+pub enum Missing {
+    Exactly(u64),
+    AtLeast(u64),
+}
+
 #[derive(Default)]
 pub struct Fields(pub Vec<(&'static str, Value)>);
 
@@ -42,6 +49,20 @@ impl Fields {
 
     pub fn number(self, name: &'static str, number: u64) -> Fields {
         self.value(name, Value::Number(number))
+    }
+
+    pub fn missing_bytes(self, missing: Missing) -> Fields {
+        match missing {
+            Missing::Exactly(bytes) => self.number("missing-bytes", bytes),
+            Missing::AtLeast(bytes) => self.number("missing-bytes-at-least", bytes),
+        }
+    }
+
+    pub fn missing_chips(self, missing: Missing) -> Fields {
+        match missing {
+            Missing::Exactly(chips) => self.number("missing-chips", chips),
+            Missing::AtLeast(chips) => self.number("missing-chips-at-least", chips),
+        }
     }
 
     pub fn bytes(self, name: &'static str, bytes: &[u8]) -> Fields {
@@ -86,7 +107,11 @@ impl Reply {
 
     /// With more fields if it has this number.
     pub fn if_number(self, number: u8, tell: impl FnOnce(Fields) -> Fields) -> Reply {
-        if self.number == number { self.with(tell) } else { self }
+        if self.number == number {
+            self.with(tell)
+        } else {
+            self
+        }
     }
 
     pub fn drawn(mut self, drawing: String) -> Reply {
@@ -105,6 +130,7 @@ impl Reply {
 
     /// Accepted, and so is every call that was made with the result.
     pub fn all_accepted(&self) -> bool {
-        self.number == 0 && self.below.iter().all(|below| !matches!(below, Below::Reply(_, reply) if !reply.all_accepted()))
+        self.number == 0
+            && self.below.iter().all(|below| !matches!(below, Below::Reply(_, reply) if !reply.all_accepted()))
     }
 }

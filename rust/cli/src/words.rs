@@ -32,10 +32,16 @@ pub fn of_line(line: &[u8]) -> Line<'_> {
         Ok(text) => text.trim_end(),
         Err(why) => return wrong_at(&line[..why.valid_up_to()], "is no UTF-8 text"),
     };
-    match text.find(|c: char| c.is_control() && c != '\t') {
-        Some(before) => wrong_at(&line[..before], "is a control character"),
+    match text.char_indices().find(|&(_, c)| c.is_control() && c != '\t') {
+        Some((before, c)) => wrong_at(&line[..before], &control(c)),
         None => split(text).map_or_else(Line::Wrong, Line::Words),
     }
+}
+
+/// What is wrong with a character that no command has.
+fn control(c: char) -> String {
+    let hint = if c == '\r' { "; a line ends in LF or in CR and LF" } else { "" };
+    format!("is the control character {:02X}, and belongs in no command{hint}", c as u32)
 }
 
 /// The character behind these is wrong.
@@ -123,7 +129,7 @@ mod tests {
             (&b"check \"00"[..], "word 2: its quotation mark \" is not closed"),
             (b"check \"00\"00", "word 2: a space belongs behind its closing quotation mark"),
             (b"  check \xFF", "character 9 is no UTF-8 text"),
-            (b"\tcheck \0", "character 8 is a control character"),
+            (b"\tcheck \0", "character 8 is the control character 00, and belongs in no command"),
         ] {
             assert!(matches!(of_line(wrong), Line::Wrong(fault) if fault.to_string() == why), "{wrong:?}");
         }

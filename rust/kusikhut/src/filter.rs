@@ -8,8 +8,5 @@ pub type Entries = [[u8; 8]; 16];
 pub fn wanted(entries: &Entries, count: usize, content: &[u8]) -> Result<bool, Refusal> {
     let flat = entries.as_flattened().as_ptr();
     // Sound: the entries are 128 bytes, the slice is valid for its length, and `told` lends one result.
-    told(
-        |r| unsafe { raw::kusikhut_filter(flat, count, content.as_ptr(), content.len(), r) },
-        |[yes]| yes == 1,
-    )
+    told(|r| unsafe { raw::kusikhut_filter(flat, count, content.as_ptr(), content.len(), r) }, |[yes]| yes == 1)
 }

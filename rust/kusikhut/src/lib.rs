@@ -36,7 +36,10 @@ pub use store_file::{read_store, Restored, StoreFault, StoreFile};
 pub use sync::{search, Found, Kind};
 
 /// Lends `call` a row of results; tells what `accepted` makes of the row, or the refusal.
-fn told<T, const N: usize>(call: impl FnOnce(*mut u64) -> u8, accepted: impl FnOnce([u64; N]) -> T) -> Result<T, Refusal> {
+fn told<T, const N: usize>(
+    call: impl FnOnce(*mut u64) -> u8,
+    accepted: impl FnOnce([u64; N]) -> T,
+) -> Result<T, Refusal> {
     let mut results = [0; N];
     match call(results.as_mut_ptr()) {
         0 => Ok(accepted(results)),

@@ -18,10 +18,7 @@ impl Code {
         };
         // Sound: both slices are valid for their lengths, `out` is borrowed for this call alone, and `told` lends one
         // result.
-        told(
-            |r| unsafe { call(chips.as_ptr(), chips.len(), start, n, out.as_mut_ptr(), out.len(), r) },
-            |[_word]| (),
-        )
+        told(|r| unsafe { call(chips.as_ptr(), chips.len(), start, n, out.as_mut_ptr(), out.len(), r) }, |[_word]| ())
     }
 
     /// Encodes `bytes` into the start of `out`; gives the number of bytes written.

@@ -9,9 +9,33 @@ pub type Judge = unsafe extern "C" fn(*const u8, usize, *const u8, usize, *mut u
 pub type Size = unsafe extern "C" fn(u8, *mut u64) -> u8;
 
 extern "C" {
-    pub fn kusikhut_decode_nrz(c: *const u8, cl: usize, start: usize, n: usize, o: *mut u8, ol: usize, r: *mut u64) -> u8;
-    pub fn kusikhut_decode_three_of_six(c: *const u8, cl: usize, start: usize, n: usize, o: *mut u8, ol: usize, r: *mut u64) -> u8;
-    pub fn kusikhut_decode_manchester(c: *const u8, cl: usize, start: usize, n: usize, o: *mut u8, ol: usize, r: *mut u64) -> u8;
+    pub fn kusikhut_decode_nrz(
+        c: *const u8,
+        cl: usize,
+        start: usize,
+        n: usize,
+        o: *mut u8,
+        ol: usize,
+        r: *mut u64,
+    ) -> u8;
+    pub fn kusikhut_decode_three_of_six(
+        c: *const u8,
+        cl: usize,
+        start: usize,
+        n: usize,
+        o: *mut u8,
+        ol: usize,
+        r: *mut u64,
+    ) -> u8;
+    pub fn kusikhut_decode_manchester(
+        c: *const u8,
+        cl: usize,
+        start: usize,
+        n: usize,
+        o: *mut u8,
+        ol: usize,
+        r: *mut u64,
+    ) -> u8;
     pub fn kusikhut_encode_nrz(b: *const u8, bl: usize, o: *mut u8, ol: usize, r: *mut u64) -> u8;
     pub fn kusikhut_encode_three_of_six(b: *const u8, bl: usize, o: *mut u8, ol: usize, r: *mut u64) -> u8;
     pub fn kusikhut_encode_manchester(b: *const u8, bl: usize, o: *mut u8, ol: usize, r: *mut u64) -> u8;
@@ -39,15 +63,25 @@ extern "C" {
     pub fn kusikhut_mending_propose_one_b(s: *const u8, sl: usize, o: *mut u8, ol: usize, r: *mut u64) -> u8;
     pub fn kusikhut_mending_propose_a(s: *const u8, sl: usize, o: *mut u8, ol: usize, r: *mut u64) -> u8;
     pub fn kusikhut_mending_propose_b(s: *const u8, sl: usize, o: *mut u8, ol: usize, r: *mut u64) -> u8;
-    pub fn kusikhut_receive(c: *const u8, cl: usize, start: usize, allowance: usize, o: *mut u8, ol: usize, r: *mut u64) -> u8;
-    pub fn kusikhut_receive_manchester(c: *const u8, cl: usize, start: usize, o: *mut u8, ol: usize, r: *mut u64) -> u8;
+    pub fn kusikhut_receive(
+        c: *const u8,
+        cl: usize,
+        start: usize,
+        allowance: usize,
+        o: *mut u8,
+        ol: usize,
+        r: *mut u64,
+    ) -> u8;
+    pub fn kusikhut_receive_manchester(c: *const u8, cl: usize, start: usize, o: *mut u8, ol: usize, r: *mut u64)
+        -> u8;
     pub fn kusikhut_send_t_a(c: *const u8, cl: usize, o: *mut u8, ol: usize, r: *mut u64) -> u8;
     pub fn kusikhut_send_c_a(c: *const u8, cl: usize, o: *mut u8, ol: usize, r: *mut u64) -> u8;
     pub fn kusikhut_send_c_b(c: *const u8, cl: usize, o: *mut u8, ol: usize, r: *mut u64) -> u8;
     pub fn kusikhut_send_manchester_a(c: *const u8, cl: usize, o: *mut u8, ol: usize, r: *mut u64) -> u8;
     pub fn kusikhut_header_read(b: *const u8, bl: usize, r: *mut u64) -> u8;
     pub fn kusikhut_header_write_8c(cc: u8, acc: u8, o: *mut u8, ol: usize, r: *mut u64) -> u8;
-    pub fn kusikhut_header_write_8d(cc: u8, acc: u8, sn: u32, crc: *const u8, o: *mut u8, ol: usize, r: *mut u64) -> u8;
+    pub fn kusikhut_header_write_8d(cc: u8, acc: u8, sn: u32, crc: *const u8, o: *mut u8, ol: usize, r: *mut u64)
+        -> u8;
     pub fn kusikhut_header_write_8e(cc: u8, acc: u8, m2: u16, a2: *const u8, o: *mut u8, ol: usize, r: *mut u64) -> u8;
     pub fn kusikhut_header_write_8f(
         cc: u8,

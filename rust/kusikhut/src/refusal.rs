@@ -63,11 +63,6 @@ impl Refusal {
         self.answer().value.map(|name| (name, self.value))
     }
 
-    /// When the refusal is given, in a sentence for people.
-    pub fn meaning(self) -> &'static str {
-        self.answer().meaning
-    }
-
     fn answer(self) -> Answer {
         answer(self.number).unwrap_or_else(|| unreachable!("the library answers no number {}", self.number))
     }
@@ -90,10 +85,16 @@ mod tests {
     #[test]
     fn the_page_has_a_word_for_every_number() {
         let told = |number, value| Refusal { number, value }.to_string();
-        assert_eq!([told(1, 0), told(3, 2), told(14, 5)], ["1 too-short", "3 wrong-check block=2", "14 allowance-used-up tried=5"]);
+        assert_eq!(
+            [told(1, 0), told(3, 2), told(14, 5)],
+            ["1 too-short", "3 wrong-check block=2", "14 allowance-used-up tried=5"]
+        );
         for number in (0..=14).chain(17..=26) {
             let answer = answer(number).unwrap_or_else(|| panic!("{number} has no row"));
-            assert!(answer.name.bytes().all(|b| b == b'-' || b.is_ascii_lowercase()) && !answer.meaning.is_empty(), "{number}");
+            assert!(
+                answer.name.bytes().all(|b| b == b'-' || b.is_ascii_lowercase()) && !answer.meaning.is_empty(),
+                "{number}"
+            );
         }
         assert_eq!(answers().len(), 25, "no other table of the page has rows that begin with a number");
     }

@@ -77,7 +77,10 @@ fn a_refusal_leaves_the_file_and_nothing_beside_it() {
 #[test]
 fn a_file_that_is_no_running_store_is_refused() {
     let path = folder("no_store").join("store");
-    let good = { one_meter(&path); fs::read(&path).expect("it is there") };
+    let good = {
+        one_meter(&path);
+        fs::read(&path).expect("it is there")
+    };
     let opened = |bytes: &[u8]| {
         fs::write(&path, bytes).expect("it can be written");
         refused(StoreFile::open(&path))

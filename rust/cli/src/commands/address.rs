@@ -2,20 +2,18 @@
 use super::Command;
 use crate::args::Args;
 use crate::fault::Fault;
-use crate::notation::shortened;
+use crate::notation::{self, shortened};
 use crate::reply::{Fields, Reply, Value};
 
-pub const COMMANDS: &[Command] = &[
-    Command {
-        name: "letters",
-        usage: "received=BYTES | number=M",
-        does: "the letters of a maker's number M",
-        more: "M is two bytes as they are received, low byte first, or a number; which of the two is said and \
+pub const COMMANDS: &[Command] = &[Command {
+    name: "letters",
+    usage: "received=BYTES | number=M",
+    does: "the letters of a maker's number M",
+    more: "M is two bytes as they are received, low byte first, or a number; which of the two is said and \
                never guessed.",
-        example: "letters received=AE0C",
-        run: letters,
-    },
-];
+    example: "letters received=AE0C",
+    run: letters,
+}];
 
 fn letters(mut a: Args) -> Result<Reply, Fault> {
     let (received, number) = (a.option_fixed::<2>("received")?, a.option("number"));
@@ -30,9 +28,9 @@ fn letters(mut a: Args) -> Result<Reply, Fault> {
 }
 
 fn number_of(at: usize, text: &str) -> Result<[u8; 2], Fault> {
-    let number = crate::notation::number(text).map_err(|why| Fault::of_word(at, format!("number {why}")))?;
-    let m = u16::try_from(number).map_err(|_| Fault::of_word(at, format!("number is {number} and may be at most 65535")))?;
-    Ok(m.to_le_bytes())
+    let number =
+        notation::number_to(text, u16::MAX.into()).map_err(|why| Fault::of_word(at, format!("number {why}")))?;
+    Ok((number as u16).to_le_bytes())
 }
 
 /// The order of the two bytes is never guessed: the low one comes first on the air, and a number is written high first.

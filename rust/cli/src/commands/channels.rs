@@ -2,6 +2,7 @@
 use super::Command;
 use crate::args::Args;
 use crate::fault::Fault;
+use crate::numbers;
 use crate::reply::{Fields, Reply, Value};
 
 pub const COMMANDS: &[Command] = &[
@@ -9,7 +10,7 @@ pub const COMMANDS: &[Command] = &[
         name: "channel",
         usage: "INDEX CHANNEL",
         does: "the centre of a mode N channel",
-        more: "With its row of Table 21, in kilohertz.",
+        more: "With its row of Table 21, in kilohertz. If there is none, channels= says how many the index has, from 0 on.",
         example: "channel 5 0",
         run: channel,
     },
@@ -26,15 +27,18 @@ pub const COMMANDS: &[Command] = &[
 fn channel(mut a: Args) -> Result<Reply, Fault> {
     let (index, channel) = (a.number("INDEX")?, a.number("CHANNEL")?);
     a.end()?;
-    Ok(Reply::of(kusikhut::centre(index, channel), |f, khz| {
+    let reply = Reply::of(kusikhut::centre(index, channel), |f, khz| {
         let row = kusikhut::row(index);
         let real = |f: Fields, name, number| f.value(name, Value::Real(number));
         real(real(real(real(f, "khz", khz), "first", row.centre), "spacing", row.spacing), "tolerance", row.tolerance)
-    }))
+    });
+    let channels = || (0..).take_while(|&channel| kusikhut::centre(index, channel).is_ok()).count() as u64;
+    Ok(reply.if_number(numbers::NO_SUCH_CHANNEL, |f| f.number("index", index as u64).number("channels", channels())))
 }
 
 fn band(mut a: Args) -> Result<Reply, Fault> {
-    let letter = a.word("LETTER")?.text.as_bytes();
+    let letter = a.word("LETTER")?.text.to_ascii_uppercase();
+    let letter = letter.as_bytes();
     a.end()?;
     let first = match kusikhut::band_line(letter, 0) {
         Ok(line) => line,

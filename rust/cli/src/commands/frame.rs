@@ -2,7 +2,8 @@
 use super::Command;
 use crate::args::{Args, Lent};
 use crate::fault::Fault;
-use crate::reply::Reply;
+use crate::numbers;
+use crate::reply::{Missing, Reply};
 use kusikhut::Format;
 
 pub const COMMANDS: &[Command] = &[
@@ -40,12 +41,16 @@ pub const COMMANDS: &[Command] = &[
     },
 ];
 
+/// The longest content, and the longest frame.
+pub const MOST_CONTENT: usize = 255;
+pub const MOST_FRAME: usize = 290;
+
 pub const FORMATS: [(&str, Format); 2] = [("A", Format::A), ("B", Format::B)];
 
 fn read(mut a: Args) -> Result<Reply, Fault> {
     let format = a.choice("FORMAT", &FORMATS)?;
     let bytes = a.last_bytes("BYTES")?;
-    let mut lent = a.lent(255)?;
+    let mut lent = a.lent(MOST_CONTENT)?;
     a.end()?;
     Ok(reading(format, &bytes, &mut lent))
 }
@@ -53,31 +58,35 @@ fn read(mut a: Args) -> Result<Reply, Fault> {
 /// What reading these bytes answers.
 pub fn reading(format: Format, bytes: &[u8], lent: &mut Lent) -> Reply {
     let answer = format.read(bytes, &mut lent.bytes);
-    let reply = Reply::of(answer, |f, frame| lent.result(f.number("size", frame.size).number("n", frame.n), "content", frame.n));
+    let reply = Reply::of(answer, |f, frame| {
+        lent.result(f.number("size", frame.size).number("n", frame.n), "content", frame.n)
+    });
     let reply = short_frame(reply, format, bytes);
-    let needs = || format.read(bytes, &mut [0; 255]).map_or(0, |frame| frame.n);
-    reply.if_number(4, |f| f.number("room", lent.room()).number("needs", needs())).with(|f| lent.all(f))
+    let needs = || format.read(bytes, &mut [0; MOST_CONTENT]).expect("this is room enough").n;
+    reply.if_number(numbers::NO_ROOM, |f| f.number("room", lent.room()).number("needs", needs())).with(|f| lent.all(f))
 }
 
 /// Of a frame's bytes that end too early how many are missing, by the length byte; of a length byte that is not allowed
 /// which it is.
 pub fn short_frame(reply: Reply, format: Format, bytes: &[u8]) -> Reply {
     let Some(&l) = bytes.first() else {
-        return reply.if_number(1, |f| f.number("missing-bytes", 1));
+        return reply.if_number(numbers::TOO_SHORT, |f| f.missing_bytes(Missing::AtLeast(1)));
     };
     let missing = || format.frame_size(l).map_or(0, |size| size.saturating_sub(bytes.len() as u64));
-    reply.if_number(1, |f| f.number("missing-bytes", missing())).if_number(2, |f| f.number("l", l.into()))
+    reply
+        .if_number(numbers::TOO_SHORT, |f| f.missing_bytes(Missing::Exactly(missing())))
+        .if_number(numbers::LENGTH_NOT_ALLOWED, |f| f.number("l", l.into()))
 }
 
 fn write(mut a: Args) -> Result<Reply, Fault> {
     let format = a.choice("FORMAT", &FORMATS)?;
     let content = a.last_bytes("CONTENT")?;
-    let mut lent = a.lent(290)?;
+    let mut lent = a.lent(MOST_FRAME)?;
     a.end()?;
     let answer = format.write(&content, &mut lent.bytes);
     let reply = Reply::of(answer, |f, size| lent.result(f.number("size", size), "frame", size));
-    let needs = || format.write(&content, &mut [0; 290]).unwrap_or(0);
-    let reply = reply.if_number(4, |f| f.number("room", lent.room()).number("needs", needs()));
+    let needs = || format.write(&content, &mut [0; MOST_FRAME]).expect("this is room enough");
+    let reply = reply.if_number(numbers::NO_ROOM, |f| f.number("room", lent.room()).number("needs", needs()));
     Ok(content_length(reply, format, &content).with(|f| lent.all(f)))
 }
 
@@ -87,7 +96,9 @@ pub fn content_length(reply: Reply, format: Format, content: &[u8]) -> Reply {
         Format::A => 255,
         Format::B => 251,
     };
-    reply.if_number(5, |f| f.number("given", content.len() as u64).number("least", 10).number("most", most))
+    reply.if_number(numbers::CONTENT_LENGTH_NOT_ALLOWED, |f| {
+        f.number("given", content.len() as u64).number("least", 10).number("most", most)
+    })
 }
 
 fn change(mut a: Args) -> Result<Reply, Fault> {
@@ -98,10 +109,14 @@ fn change(mut a: Args) -> Result<Reply, Fault> {
     let mut lent = a.lent_in_place(bytes)?;
     a.end()?;
     let answer = format.change(&mut lent.bytes, place, byte);
-    let reply = Reply::of(answer, |f, frame| lent.result(f.number("size", frame.size).number("n", frame.n), "frame", frame.size));
+    let reply = Reply::of(answer, |f, frame| {
+        lent.result(f.number("size", frame.size).number("n", frame.n), "frame", frame.size)
+    });
     let reply = short_frame(reply, format, &lent.bytes);
-    let n = || format.read(&lent.bytes, &mut [0; 255]).map_or(0, |frame| frame.n);
-    Ok(reply.if_number(9, |f| f.number("given", place as u64).number("n", n())).with(|f| lent.all(f)))
+    let n = || format.read(&lent.bytes, &mut [0; MOST_CONTENT]).expect("the frame itself was taken").n;
+    Ok(reply
+        .if_number(numbers::NO_SUCH_PLACE, |f| f.number("given", place as u64).number("n", n()))
+        .with(|f| lent.all(f)))
 }
 
 fn size(mut a: Args) -> Result<Reply, Fault> {

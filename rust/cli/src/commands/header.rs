@@ -3,7 +3,8 @@ use super::address::maker;
 use super::Command;
 use crate::args::Args;
 use crate::fault::Fault;
-use crate::reply::{Fields, Reply};
+use crate::numbers;
+use crate::reply::{Fields, Missing, Reply};
 use kusikhut::{Access, Header};
 
 pub const COMMANDS: &[Command] = &[
@@ -17,7 +18,8 @@ pub const COMMANDS: &[Command] = &[
     },
     Command {
         name: "write-header",
-        usage: "8C CC ACC | 8D CC ACC SN CRC | 8E CC ACC M2 A2 | 8F CC ACC M2 A2 SN CRC [room=17] [fill=00] [show=lent]",
+        usage:
+            "8C CC ACC | 8D CC ACC SN CRC | 8E CC ACC M2 A2 | 8F CC ACC M2 A2 SN CRC [room=17] [fill=00] [show=lent]",
         does: "write an extended link header",
         more: "Each field is its bytes as they are sent.",
         example: "write-header 8E 20 27 AE0C 785634120107",
@@ -42,18 +44,23 @@ fn header(mut a: Args) -> Result<Reply, Fault> {
             Header::Plain { cc, acc } => control(f, cc, acc),
             Header::Secured { cc, acc, sn, crc } => session(control(f, cc, acc), sn, crc),
             Header::Addressed { cc, acc, m2, a2 } => named(control(f, cc, acc), m2, a2),
-            Header::AddressedSecured { cc, acc, m2, a2, sn, crc } => session(named(control(f, cc, acc), m2, a2), sn, crc),
+            Header::AddressedSecured { cc, acc, m2, a2, sn, crc } => {
+                session(named(control(f, cc, acc), m2, a2), sn, crc)
+            }
         }
     });
-    let reply = reply.if_number(11, |f| f.bytes("ci", &body[..1]));
-    Ok(reply.if_number(12, |f| f.number("missing-bytes", missing(&body))))
+    let reply = reply.if_number(numbers::UNKNOWN_CI, |f| f.bytes("ci", &body[..1]));
+    Ok(reply.if_number(numbers::BODY_TOO_SHORT, |f| f.missing_bytes(missing(&body))))
 }
 
 /// How many bytes are missing to the header that the body's first byte announces.
-fn missing(body: &[u8]) -> u64 {
-    let filled: Vec<u8> = body.iter().copied().chain([0; 17]).collect();
-    let size = Header::read(&filled).map_or(1, |(_, size)| size);
-    if body.is_empty() { 1 } else { size.saturating_sub(body.len() as u64) }
+fn missing(body: &[u8]) -> Missing {
+    if body.is_empty() {
+        return Missing::AtLeast(1);
+    }
+    let filled = [body, &[0; LONGEST]].concat();
+    let (_, size) = Header::read(&filled).expect("this is long enough");
+    Missing::Exactly(size - body.len() as u64)
 }
 
 fn control(fields: Fields, cc: u8, acc: u8) -> Fields {
@@ -68,8 +75,21 @@ fn session(fields: Fields, sn: u32, crc: [u8; 2]) -> Fields {
     fields.bytes("sn", &sn.to_le_bytes()).number("sn-number", sn.into()).bytes("crc", &crc)
 }
 
+/// The longest header.
+pub const LONGEST: usize = 17;
+
+/// The byte that says which header it is.
+fn kind(a: &mut Args) -> Result<u8, Fault> {
+    let at = a.place();
+    let ci = a.byte("CI")?;
+    match ci {
+        0x8C..=0x8F => Ok(ci),
+        _ => Err(Fault::of_word(at, format!("CI is {ci:02X} and must be one of 8C, 8D, 8E, 8F"))),
+    }
+}
+
 fn write_header(mut a: Args) -> Result<Reply, Fault> {
-    let ci = a.choice("CI", &[("8C", 0x8C), ("8D", 0x8D), ("8E", 0x8E), ("8F", 0x8F)])?;
+    let ci = kind(&mut a)?;
     let (cc, acc) = (a.byte("CC")?, a.byte("ACC")?);
     let (mut m2, mut a2, mut sn, mut crc) = (0, [0; 6], 0, [0; 2]);
     if ci >= 0x8E {
@@ -86,11 +106,13 @@ fn write_header(mut a: Args) -> Result<Reply, Fault> {
         0x8E => Header::Addressed { cc, acc, m2, a2 },
         _ => Header::AddressedSecured { cc, acc, m2, a2, sn, crc },
     };
-    let mut lent = a.lent(17)?;
+    let mut lent = a.lent(LONGEST)?;
     a.end()?;
     let reply = Reply::of(header.write(&mut lent.bytes), |f, size| lent.result(f.number("size", size), "header", size));
-    let needs = || header.write(&mut [0; 17]).unwrap_or(0);
-    Ok(reply.if_number(4, |f| f.number("room", lent.room()).number("needs", needs())).with(|f| lent.all(f)))
+    let needs = || header.write(&mut [0; LONGEST]).expect("this is room enough");
+    Ok(reply
+        .if_number(numbers::NO_ROOM, |f| f.number("room", lent.room()).number("needs", needs()))
+        .with(|f| lent.all(f)))
 }
 
 fn access(mut a: Args) -> Result<Reply, Fault> {

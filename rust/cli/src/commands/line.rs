@@ -2,7 +2,8 @@
 use super::{out_of_range, with_chips, Command};
 use crate::args::Args;
 use crate::fault::Fault;
-use crate::reply::Reply;
+use crate::numbers;
+use crate::reply::{Missing, Reply};
 use kusikhut::Code;
 
 pub const COMMANDS: &[Command] = &[
@@ -16,7 +17,7 @@ pub const COMMANDS: &[Command] = &[
     },
     Command {
         name: "encode",
-        usage: "CODE BYTES [room=ENOUGH] [fill=00] [show=lent]",
+        usage: "CODE BYTES [room=NUMBER] [fill=00] [show=lent]",
         does: "encode bytes as chips of a line code",
         more: "CODE is nrz, three-of-six or manchester.",
         example: "encode manchester 44",
@@ -54,14 +55,20 @@ fn decode(mut a: Args) -> Result<Reply, Fault> {
     a.end()?;
     let answer = code.decode(&chips, start, n, &mut lent.bytes);
     let reply = Reply::of(answer, |f, ()| lent.result(f.number("size", n as u64), "bytes", n as u64));
-    let reply = missing_chips(with_chips(reply, &chips, start), &chips, start, (n as u64).checked_mul(chips_a_byte(code)));
-    Ok(reply.if_number(4, |f| f.number("room", lent.room()).number("needs", n as u64)).with(|f| lent.all(f)))
+    let reply =
+        missing_chips(with_chips(reply, &chips, start), &chips, start, (n as u64).checked_mul(chips_a_byte(code)));
+    Ok(reply
+        .if_number(numbers::NO_ROOM, |f| f.number("room", lent.room()).number("needs", n as u64))
+        .with(|f| lent.all(f)))
 }
 
 /// Of 1, too-short, how many of so many chips from a start on are missing. A number that no counter holds is not told.
 fn missing_chips(reply: Reply, chips: &[u8], start: usize, asked: Option<u64>) -> Reply {
     match asked.and_then(|asked| asked.checked_add(start as u64)) {
-        Some(end) => reply.if_number(1, |f| f.number("missing-chips", end - 8 * chips.len() as u64)),
+        Some(end) => {
+            let missing = || Missing::Exactly(end - 8 * chips.len() as u64);
+            reply.if_number(numbers::TOO_SHORT, |f| f.missing_chips(missing()))
+        }
         None => reply,
     }
 }
@@ -72,8 +79,11 @@ fn encode(mut a: Args) -> Result<Reply, Fault> {
     let enough = (bytes.len() as u64 * chips_a_byte(code)).div_ceil(8);
     let mut lent = a.lent(enough as usize)?;
     a.end()?;
-    let reply = Reply::of(code.encode(&bytes, &mut lent.bytes), |f, size| lent.result(f.number("size", size), "chips", size));
-    Ok(reply.if_number(4, |f| f.number("room", lent.room()).number("needs", enough)).with(|f| lent.all(f)))
+    let reply =
+        Reply::of(code.encode(&bytes, &mut lent.bytes), |f, size| lent.result(f.number("size", size), "chips", size));
+    Ok(reply
+        .if_number(numbers::NO_ROOM, |f| f.number("room", lent.room()).number("needs", enough))
+        .with(|f| lent.all(f)))
 }
 
 fn word(mut a: Args) -> Result<Reply, Fault> {

@@ -1,66 +1,72 @@
 //! Mending by correction bytes: a proposal for what was received is judged, and its frame is read if it was taken.
 use super::correction::too_long;
-use super::frame::{reading, FORMATS};
+use super::frame::{reading, FORMATS, MOST_CONTENT};
 use super::Command;
 use crate::args::{Args, Lent};
 use crate::fault::Fault;
-use crate::notation::shortened;
-use crate::reply::{Below, Fields, Reply};
+use crate::notation::{self, shortened};
+use crate::numbers;
+use crate::reply::{Below, Fields, Missing, Reply};
 use kusikhut::{Format, Refusal, CORRECTION_SIZE};
 
-pub const COMMANDS: &[Command] = &[
-    Command {
-        name: "mend",
-        usage: "FORMAT RECEIVED [PROPOSAL] [upto=16] [room=255] [fill=00] [show=lent]",
-        does: "mend a frame by its correction bytes",
-        more: "PROPOSAL (frame and check bytes) is judged for RECEIVED (frame, header and check bytes), the \
-               places where they differ are shown, and what is taken is read. Without PROPOSAL one is made that \
+pub const COMMANDS: &[Command] = &[Command {
+    name: "mend",
+    usage: "FORMAT RECEIVED [proposal=BYTES] [upto=16] [room=255] [fill=00] [show=lent]",
+    does: "mend a frame by its correction bytes",
+    more: "A proposal (frame and check bytes) is judged for RECEIVED (frame, header and check bytes), the \
+               places where they differ are shown, and what is taken is read. Without proposal= one is made that \
                mends up to 16 wrong bytes, or with upto=1 a single one; the length byte is not covered. Read \
                docs/CORRECTION.md before use.",
-        example: "mend A 0F44AE0C7856341201074447780B134465871E6D2104\
+    example: "mend A 0F44AE0C7856341201074447780B134465871E6D2104\
                   84EA276958EC76A29678BF51DFED7661D46D36B8523BAE787CEFFD7B007EC9C6",
-        run: mend,
-    },
-];
+    run: mend,
+}];
 
 const HEADER_SIZE: usize = 2;
 
 fn mend(mut a: Args) -> Result<Reply, Fault> {
     let format = a.choice("FORMAT", &FORMATS)?;
-    let received = a.bytes("RECEIVED")?;
-    let given = if a.more() { Some(a.bytes("PROPOSAL")?) } else { None };
+    let received = a.last_bytes("RECEIVED")?;
+    let given = a.option_bytes("proposal")?;
     let proposer = a.proposer(given.is_some())?;
-    let mut lent = a.lent(255)?;
+    let mut lent = a.lent(MOST_CONTENT)?;
     a.end()?;
     let made = given.is_none();
-    Ok(match given.map_or_else(|| proposed_by(proposer, format, &received), Ok) {
+    let reply = match given.map_or_else(|| proposed_by(proposer, format, &received), Ok) {
         Ok(proposal) => judged(format, &proposal, made, &received, &mut lent),
         Err(refusal) => {
             let short = [("RECEIVED", missing(format, &received, &received, CORRECTION_SIZE))];
             by_length_byte(told_short(Reply::refused(refusal), &short), format, "RECEIVED", &received)
         }
-    })
+    };
+    // Of a proposal that was taken, reading shows the memory.
+    Ok(if reply.number == 0 { reply } else { reply.with(|f| lent.all(f)) })
 }
 
-/// How many bytes are missing to a frame, by a length byte, and what stands behind it; 1 where there is no length byte.
-fn missing(format: Format, by: &[u8], bytes: &[u8], behind: usize) -> u64 {
+/// How many bytes are missing to a frame, by a length byte, and what stands behind it.
+fn missing(format: Format, by: &[u8], bytes: &[u8], behind: usize) -> Missing {
     match by.first() {
-        Some(&l) => (format.frame_size(l).unwrap_or(0) + behind as u64).saturating_sub(bytes.len() as u64),
-        None => 1,
+        Some(&l) => {
+            let needed = format.frame_size(l).unwrap_or(0) + behind as u64;
+            Missing::Exactly(needed.saturating_sub(bytes.len() as u64))
+        }
+        None => Missing::AtLeast(1),
     }
 }
 
 /// Of a length byte that is not allowed, or a frame that is too long by it, whose it is, and how much that would be.
 fn by_length_byte(reply: Reply, format: Format, name: &'static str, word: &[u8]) -> Reply {
     let l = || word.first().map_or(0, |&l| l.into());
-    let reply = reply.if_number(2, |f| f.word("in", name).number("l", l())).if_number(23, |f| f.word("in", name));
+    let reply = reply
+        .if_number(numbers::LENGTH_NOT_ALLOWED, |f| f.word("in", name).number("l", l()))
+        .if_number(numbers::TOO_LONG_FOR_CORRECTION, |f| f.word("in", name));
     too_long(reply, format, word)
 }
 
 /// Of 1, too-short, which of the words is too short, and by how many bytes.
-fn told_short(reply: Reply, words: &[(&'static str, u64)]) -> Reply {
-    match words.iter().find(|&&(_, missing)| missing > 0) {
-        Some(&(name, missing)) => reply.if_number(1, |f| f.word("in", name).number("missing-bytes", missing)),
+fn told_short(reply: Reply, words: &[(&'static str, Missing)]) -> Reply {
+    match words.iter().find(|&&(_, missing)| missing != Missing::Exactly(0)) {
+        Some(&(name, missing)) => reply.if_number(numbers::TOO_SHORT, |f| f.word("in", name).missing_bytes(missing)),
         None => reply,
     }
 }
@@ -68,7 +74,7 @@ fn told_short(reply: Reply, words: &[(&'static str, u64)]) -> Reply {
 type Proposer = fn(Format, &[u8], &mut [u8]) -> Result<u64, Refusal>;
 
 /// By how many wrong bytes are mended, the usual one first.
-const PROPOSERS: [(&str, Proposer); 2] = [("16", Format::propose), ("1", Format::propose_one)];
+const PROPOSERS: [(u64, Proposer); 2] = [(16, Format::propose), (1, Format::propose_one)];
 
 impl Args<'_> {
     fn proposer(&mut self, given: bool) -> Result<Proposer, Fault> {
@@ -76,9 +82,10 @@ impl Args<'_> {
             return Ok(PROPOSERS[0].1);
         };
         if given {
-            return Err(Fault::of_word(at, "upto is for a proposal that is made here, and PROPOSAL is given"));
+            return Err(Fault::of_word(at, "upto is for a proposal that is made here, and proposal= is given"));
         }
-        let proposer = PROPOSERS.iter().find(|&&(bytes, _)| bytes == text).map(|&(_, proposer)| proposer);
+        let asked = notation::number(text).ok();
+        let proposer = PROPOSERS.iter().find(|&&(bytes, _)| Some(bytes) == asked).map(|&(_, proposer)| proposer);
         proposer.ok_or_else(|| Fault::of_word(at, format!("upto is {} and must be 16 or 1", shortened(text))))
     }
 }
@@ -97,7 +104,11 @@ fn judged(format: Format, proposal: &[u8], made: bool, received: &[u8], lent: &m
     let told = |reply| {
         let reply = Words::of(format, proposal, received).tell(reply);
         let uncovered = || Fields::default().bytes("length-byte", &received[..1]).is("covered", false);
-        if made { reply.below(Below::Part("length", uncovered())) } else { reply }
+        if made {
+            reply.below(Below::Part("length", uncovered()))
+        } else {
+            reply
+        }
     };
     match format.judge_proposal(proposal, received) {
         Ok(differing) => {
@@ -106,20 +117,19 @@ fn judged(format: Format, proposal: &[u8], made: bool, received: &[u8], lent: &m
             let read = reading(format, proposal, lent);
             told(Reply::accepted().with(|f| f.number("differing", differing))).below(Below::Reply("reading", read))
         }
-        Err(refusal) if matches!(refusal.number(), NOT_CODE | TOO_FAR) => told(Reply::refused(refusal)),
+        Err(refusal) if JUDGED_WHOLE.contains(&refusal.number()) => told(Reply::refused(refusal)),
         Err(refusal) => {
             let words = [
-                ("PROPOSAL", missing(format, proposal, proposal, CORRECTION_SIZE - HEADER_SIZE)),
+                ("proposal", missing(format, proposal, proposal, CORRECTION_SIZE - HEADER_SIZE)),
                 ("RECEIVED", missing(format, proposal, received, CORRECTION_SIZE)),
             ];
-            by_length_byte(told_short(Reply::refused(refusal), &words), format, "PROPOSAL", proposal)
+            by_length_byte(told_short(Reply::refused(refusal), &words), format, "proposal", proposal)
         }
     }
 }
 
 /// The refusals of judging that are given where all bytes are there.
-const NOT_CODE: u8 = 25;
-const TOO_FAR: u8 = 26;
+const JUDGED_WHOLE: [u8; 2] = [numbers::NOT_IN_CORRECTION_CODE, numbers::TOO_FAR_FOR_CORRECTION];
 
 /// What was received and what is proposed, frame, header and check bytes, and the places where the two differ.
 struct Words {

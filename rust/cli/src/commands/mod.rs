@@ -17,6 +17,7 @@ mod sync;
 use crate::args::Args;
 use crate::fault::Fault;
 use crate::notation::shortened;
+use crate::numbers;
 use crate::reply::Reply;
 use crate::words::Word;
 
@@ -89,7 +90,10 @@ pub fn is_command(name: &str) -> bool {
 }
 
 fn unknown(name: Word) -> Fault {
-    Fault::of_word(name.at, format!("there is no command {}{}; help lists them", shortened(name.text), meant(name.text)))
+    Fault::of_word(
+        name.at,
+        format!("there is no command {}{}; help lists them", shortened(name.text), meant(name.text)),
+    )
 }
 
 /// A question for whoever mistyped a command's name by a letter or two.
@@ -129,9 +133,9 @@ type Limited = (&'static str, u64, u64);
 /// Of 10, out-of-range, which argument is over its limit, and what the limit is.
 fn out_of_range(reply: Reply, arguments: &[Limited]) -> Reply {
     match arguments.iter().find(|&&(_, given, limit)| given > limit) {
-        Some(&(name, given, limit)) => {
-            reply.if_number(10, |f| f.word("argument", name).number("given", given).number("limit", limit))
-        }
+        Some(&(name, given, limit)) => reply.if_number(numbers::OUT_OF_RANGE, |f| {
+            f.word("argument", name).number("given", given).number("limit", limit)
+        }),
         None => reply,
     }
 }
@@ -174,19 +178,49 @@ mod tests {
         }
     }
 
+    /// What a usage says is lent without `room=` is lent.
+    #[test]
+    fn rooms_are_as_said() {
+        use {frame::MOST_CONTENT, frame::MOST_FRAME, header::LONGEST, radio::MOST_SENT};
+        let rooms = [
+            ("read", MOST_CONTENT),
+            ("receive", MOST_CONTENT),
+            ("manchester", MOST_CONTENT),
+            ("mend", MOST_CONTENT),
+            ("write", MOST_FRAME),
+            ("send", MOST_SENT),
+            ("write-header", LONGEST),
+            ("check-bytes", 32),
+        ];
+        for (name, room) in rooms {
+            let command = commands().find(|c| c.name == name).expect("there is one");
+            assert!(command.usage.contains(&format!("[room={room}]")), "{name}");
+        }
+        let longest = |kind: &str| reply(&format!("send {kind} +255*00")).number;
+        assert_eq!([longest("T-A"), longest("Manchester-A"), reply("write A +255*00").number], [0; 3]);
+    }
+
     /// The limits that a refusal names are the library's: it accepts up to them and refuses beyond them.
     #[test]
     fn limits_are_the_librarys() {
         let at = |line: &str, number: u8| assert_eq!(reply(line).number, number, "{line}");
         at("update FFFF 00 01 125", 0);
         at("update FFFF 00 01 126", 10);
-        at("search +1024*00", 7);
-        at("search +1025*00", 10);
-        at("search 00 start=8", 7);
-        at("search 00 start=9", 10);
-        at("word nrz 0000 8", 0);
-        at("word nrz 00 8", 1);
-        at("word nrz 00 9", 10);
+        for (before, behind, refused) in
+            [("search ", "", 7), ("receive ", "", 7), ("manchester ", "", 6), ("word nrz ", " 0", 0)]
+        {
+            at(&format!("{before}+1024*00{behind}"), refused);
+            at(&format!("{before}+1025*00{behind}"), 10);
+        }
+        for (before, start, refused) in
+            [("search 00 start=", 8, 7), ("manchester 00 start=", 8, 1), ("word nrz 00 ", 8, 1)]
+        {
+            at(&format!("{before}{start}"), refused);
+            at(&format!("{before}{}", start + 1), 10);
+        }
+        at("decode nrz +1024*00 8192 0", 0);
+        at("decode nrz +1024*00 8193 0", 10);
+        at("decode nrz +1025*00 0 0", 10);
         let entries = |count| format!("filter 44+8*00{}", " 0000000000000000".repeat(count));
         at(&entries(16), 0);
         at(&entries(17), 10);

@@ -1,18 +1,19 @@
 //! Frames as chips: receive and send.
-use super::frame::content_length;
+use super::frame::{content_length, MOST_CONTENT};
 use super::{with_chips, Command};
 use crate::anatomy::OnAir;
 use crate::args::{Args, Lent};
 use crate::fault::Fault;
+use crate::numbers;
 use crate::reply::{Fields, Reply};
 use kusikhut::{Code, Format, Kind, Received, Refusal};
 
 pub const COMMANDS: &[Command] = &[
     Command {
         name: "receive",
-        usage: "CHIPS [start=0] [allowance=ALL] [room=255] [fill=00] [show=lent]",
+        usage: "CHIPS [start=0] [allowance=NUMBER] [room=255] [fill=00] [show=lent]",
         does: "search a mode T or C frame in the chips and read it",
-        more: "The search begins at chip start= and tries at most allowance= places. kind= says mode and \
+        more: "The search begins at chip start= and tries all places behind it, or allowance= of them. kind= says mode and \
                format, place= where the sync word stands, size= how many bytes the frame has; content= is what \
                the meter says, n= bytes without length byte and checks.",
         example: "receive 543D5A971C9B25B44EC65A2DC34E58D59371C7134EC5A334B70B699B133726B1",
@@ -35,6 +36,9 @@ pub const COMMANDS: &[Command] = &[
         run: send,
     },
 ];
+
+/// Room for every frame in chips: 290 bytes in Manchester are 580.
+pub const MOST_SENT: usize = 600;
 
 pub const KINDS: [(&str, Kind); 4] =
     [("T-A", Kind::TWithA), ("C-A", Kind::CWithA), ("C-B", Kind::CWithB), ("Manchester-A", Kind::ManchesterWithA)];
@@ -71,7 +75,7 @@ impl Asked {
     pub fn with_search(mut a: Args) -> Result<Asked, Fault> {
         let chips = a.last_bytes("CHIPS")?;
         let (start, allowance) = (a.option_number("start", 0)?, a.option_number("allowance", usize::MAX)?);
-        let lent = a.lent(255)?;
+        let lent = a.lent(MOST_CONTENT)?;
         a.end()?;
         Ok(Asked { chips, start, allowance: Some(allowance), lent })
     }
@@ -79,7 +83,7 @@ impl Asked {
     pub fn at_named_chip(mut a: Args) -> Result<Asked, Fault> {
         let chips = a.last_bytes("CHIPS")?;
         let start = a.option_number("start", 0)?;
-        let lent = a.lent(255)?;
+        let lent = a.lent(MOST_CONTENT)?;
         a.end()?;
         Ok(Asked { chips, start, allowance: None, lent })
     }
@@ -106,10 +110,12 @@ impl Asked {
         let answer = self.call(&mut out);
         self.lent.bytes = out;
         let reply = Reply::of(answer, |f, got| self.lent.result(received(f, got), "content", got.n));
-        let needs = || self.call(&mut [0; 255]).map_or(0, |got| got.n);
-        let reply = reply.if_number(4, |f| f.number("room", self.lent.room()).number("needs", needs()));
-        let reply = reply.if_number(1, |f| f.number("missing-chips", self.on_air().missing()));
-        let reply = reply.if_number(2, |f| f.number("l", self.on_air().length_byte().map_or(0, u64::from)));
+        let needs = || self.call(&mut [0; MOST_CONTENT]).expect("this is room enough").n;
+        let reply = reply.if_number(numbers::NO_ROOM, |f| f.number("room", self.lent.room()).number("needs", needs()));
+        let reply = reply.if_number(numbers::TOO_SHORT, |f| f.missing_chips(self.on_air().missing()));
+        let reply = reply.if_number(numbers::LENGTH_NOT_ALLOWED, |f| {
+            f.number("l", self.on_air().length_byte().map_or(0, u64::from))
+        });
         with_chips(reply, &self.chips, self.start).with(|f| self.lent.all(f))
     }
 }
@@ -130,10 +136,11 @@ fn received(fields: Fields, got: Received) -> Fields {
 fn send(mut a: Args) -> Result<Reply, Fault> {
     let kind = a.choice("KIND", &KINDS)?;
     let content = a.last_bytes("CONTENT")?;
-    let mut lent = a.lent(600)?;
+    let mut lent = a.lent(MOST_SENT)?;
     a.end()?;
-    let reply = Reply::of(kind.send(&content, &mut lent.bytes), |f, size| lent.result(f.number("size", size), "chips", size));
-    let needs = || kind.send(&content, &mut [0; 600]).unwrap_or(0);
-    let reply = reply.if_number(4, |f| f.number("room", lent.room()).number("needs", needs()));
+    let reply =
+        Reply::of(kind.send(&content, &mut lent.bytes), |f, size| lent.result(f.number("size", size), "chips", size));
+    let needs = || kind.send(&content, &mut [0; MOST_SENT]).expect("this is room enough");
+    let reply = reply.if_number(numbers::NO_ROOM, |f| f.number("room", lent.room()).number("needs", needs()));
     Ok(content_length(reply, format_of(kind), &content).with(|f| lent.all(f)))
 }

@@ -172,7 +172,9 @@ fn new(file: &Path, a: Args) -> Result<Reply, Fault> {
 fn show(file: &Path, a: Args) -> Result<Reply, Fault> {
     a.end()?;
     told(file, StoreFile::open(file).and_then(|store| store.settings()), |reply, settings| {
-        reply.with(|f| tell_settings(f, &settings)).list("held", &settings.meters, |meter| tell_meter(row_of(meter), meter))
+        reply
+            .with(|f| tell_settings(f, &settings))
+            .list("held", &settings.meters, |meter| tell_meter(row_of(meter), meter))
     })
 }
 
@@ -288,7 +290,11 @@ fn what_changed(before: Option<&Meter>, backup: Option<&Meter>, after: &Meter) -
         (after.format != before.format, format!("format-was-{}", format_name(before.format))),
     ];
     let what: Vec<String> = changes.into_iter().filter_map(|(holds, what)| holds.then_some(what)).collect();
-    if what.is_empty() { "same".into() } else { what.join(",") }
+    if what.is_empty() {
+        "same".into()
+    } else {
+        what.join(",")
+    }
 }
 
 #[cfg(test)]

@@ -4,16 +4,14 @@ use crate::args::Args;
 use crate::fault::Fault;
 use crate::reply::Reply;
 
-pub const COMMANDS: &[Command] = &[
-    Command {
-        name: "search",
-        usage: "CHIPS [start=0] [allowance=ALL]",
-        does: "look for the sync word 543D",
-        more: "From chip start= on, at no more than allowance= places; tried= says at how many.",
-        example: "search 55555555543D start=3 allowance=100",
-        run: search,
-    },
-];
+pub const COMMANDS: &[Command] = &[Command {
+    name: "search",
+    usage: "CHIPS [start=0] [allowance=NUMBER]",
+    does: "look for the sync word 543D",
+    more: "From chip start= on, at all places or at allowance= of them; tried= says at how many.",
+    example: "search 55555555543D start=3 allowance=100",
+    run: search,
+}];
 
 fn search(mut a: Args) -> Result<Reply, Fault> {
     let chips = a.last_bytes("CHIPS")?;

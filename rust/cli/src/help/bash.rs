@@ -134,6 +134,15 @@ mod tests {
         assert!(add.more.contains(&format!("MODE is {listed}.")), "{listed}");
     }
 
+    /// The letters are those of the bands, and no other.
+    #[test]
+    fn letters_are_the_bands() {
+        let listed = one_of("LETTER").expect("they are few");
+        let bands: Vec<String> =
+            ('A'..='Z').map(String::from).filter(|b| kusikhut::band_line(b.as_bytes(), 0).is_ok()).collect();
+        assert_eq!(listed, bands.join(" "));
+    }
+
     #[test]
     fn options_as_they_are_typed() {
         assert_eq!(option("[room=255]"), Some("room="));

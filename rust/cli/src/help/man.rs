@@ -1,5 +1,5 @@
 //! The man page, in the macros of man(7).
-use super::{entries, unticked, version, RULES};
+use super::{answers, entries, version, RULES};
 use crate::commands::{store, Entry};
 use crate::flags::FLAGS;
 
@@ -45,7 +45,7 @@ pub fn man_page() -> String {
     page.extend(store::entries().map(|e| described(&e)));
     page += ".SH ANSWERS\n";
     for row in kusikhut::answers() {
-        page += &tagged(&format!("{} {}", row.number, row.name), &unticked(row.meaning));
+        page += &tagged(&format!("{} {}", row.number, row.name), &answers::said_of(*row));
     }
     page + SEE_ALSO
 }
@@ -65,7 +65,11 @@ fn described(e: &Entry) -> String {
 fn plain(text: &str) -> String {
     let words: Vec<&str> = text.split_whitespace().collect();
     let escaped: String = words.join(" ").chars().map(escaped).collect();
-    if escaped.starts_with(['.', '\'']) { format!("\\&{escaped}") } else { escaped }
+    if escaped.starts_with(['.', '\'']) {
+        format!("\\&{escaped}")
+    } else {
+        escaped
+    }
 }
 
 /// A character as itself: some would come out as others that look nicer, and cannot be typed.

@@ -1,4 +1,5 @@
 //! What the program says of itself: `help`, the man page and the completion for bash, all from the commands' own texts.
+mod answers;
 mod bash;
 mod man;
 
@@ -21,14 +22,15 @@ pub fn version() -> String {
 /// The paragraphs that hold for all commands.
 pub const RULES: [&str; 5] = [
     "Bytes are hex digits, two for each, in the order in which they are sent, the first chip in the highest bit. Spaces, \
-     colons and underscores may stand between bytes, and 0x before them; put spaces into quotation marks unless the bytes \
-     come last. - is no bytes, and 44+3*00 is 44 00 00 00.",
+     colons and underscores may stand between bytes, and 0x before them. Put bytes with spaces into quotation marks, but \
+     where they come last, in groups of the same 2, 4 or 8 digits. - is no bytes, and 44+3*00 is 44 00 00 00.",
     "Numbers (places, sizes, counts, L) are decimal, or hex behind 0x.",
     "A line may have 16384 bytes, an argument stand for 65536, and room= be 131072: more is an error and no answer.",
     "An answer is its number, its name, and values as name=value; lines set in below it belong to it. A result's bytes stand \
      whole in a field of their own (content=, frame=, chips= ..). room= and fill= say how many bytes are lent for it and \
      what they hold before the call; with room= the answer says how many are left=, and with show=lent it shows them all. \
-     error begins the answer to a line that was not understood. What stands behind # is a comment.",
+     error begins the answer to a line that was not understood. What stands behind # is a comment; a line of nothing else \
+     is passed on.",
     "The exit status is 0 if the command was accepted, 1 if it was refused, 2 if there is no answer: it was not understood, \
      or a file cannot be used. For many lines it is 0 unless they cannot be read; see --strict.",
 ];
@@ -39,13 +41,13 @@ pub fn on(topic: &[Word]) -> Result<String, Fault> {
         return Ok(overview());
     };
     match first.text {
+        "help" => return Ok(overview()),
         "all" => return Ok(all()),
         "rules" => return Ok(rules()),
         _ => {}
     }
-    if let Some(row) = first.text.parse().ok().and_then(kusikhut::answer) {
-        let value = row.value.map_or(String::new(), |value| format!(" {value}=.."));
-        return Ok(format!("{} {}{value}\n{}\n", row.number, row.name, paragraph(&unticked(row.meaning), 4)));
+    if let Some(answer) = answers::asked_for(first.text) {
+        return Ok(answers::on(answer));
     }
     let chosen: Vec<String> = entries().filter(|e| is_named(e, first.text)).map(|e| entry(&e, true)).collect();
     if chosen.is_empty() {
@@ -54,11 +56,6 @@ pub fn on(topic: &[Word]) -> Result<String, Fault> {
     }
     let about = if first.text == "store" { paragraph(store::ABOUT, 0) + "\n\n" } else { String::new() };
     Ok(about + &chosen.join("\n"))
-}
-
-/// A text of the page without the marks that set code apart there.
-fn unticked(text: &str) -> String {
-    text.replace('`', "")
 }
 
 fn is_named(entry: &Entry, name: &str) -> bool {
@@ -81,7 +78,7 @@ fn overview() -> String {
         text += &listed(c.name, c.does);
     }
     text += &listed("store FILE ..", "a collector's settings in a file: help store");
-    text += &listed("help ..", "COMMAND, all, rules (how bytes and numbers are written), or an answer's number");
+    text += &listed("help ..", "COMMAND, all, rules (how bytes are written), or an answer (3, wrong-check)");
     text += "\nFlags, anywhere:\n";
     for (flag, does) in FLAGS {
         text += &listed(flag, does);

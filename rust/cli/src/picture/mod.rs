@@ -2,15 +2,18 @@
 //! bytes, the fields by name, the blocks with their checks, the content. Of a refused frame the place that decided is red.
 mod parts;
 mod svg;
+mod words;
 
 use crate::anatomy::{self, Cell, OnAir, Placed, SYNC};
-use crate::commands::radio::{code_of, format_of, kind_name};
+use crate::commands::radio::{code_of, format_of};
 use crate::notation::{counted, hex};
-use crate::reply::{Reply, Value};
-use kusikhut::{Code, Format};
+use crate::numbers;
+use crate::reply::Reply;
+use kusikhut::{Code, Format, Kind};
 use parts::Field;
 use std::ops::Range;
 use svg::{Held, Svg};
+use words::{bytes, headline, meaning, number};
 
 /// Room at the left, where the rows have their names.
 const GUTTER: f64 = 70.0;
@@ -56,37 +59,27 @@ text { font-family: Helvetica, Arial, sans-serif; font-size: 12px; fill: #222222
 
 /// The answer to a frame in chips, drawn.
 pub fn of_chips(reply: &Reply, on_air: &OnAir) -> String {
-    let mut drawing = Drawing::of(reply);
+    let mut drawing = Drawing::of(reply, on_air.start);
     match (on_air.sync, on_air.frame, reply.number) {
-        (_, _, OUT_OF_RANGE) => {}
+        (_, _, numbers::OUT_OF_RANGE) => {}
         (None, None, _) => drawing.noise(on_air),
-        (sync, frame, _) => {
-            drawing.lead(on_air, sync, frame);
-            if let (Some(placed), Some(cells)) = (frame, on_air.cells()) {
-                drawing.frame(&Frame::of(format_of(placed.kind), cells, Some((on_air, placed))));
-            }
+        (sync, frame, _) => drawing.lead(on_air, sync, frame),
+    }
+    match (on_air.frame, on_air.cells()) {
+        (Some(placed), Some(cells)) if reply.number != numbers::OUT_OF_RANGE => {
+            drawing.frame(&Frame::of(format_of(placed.kind), cells, Some((on_air, placed))));
         }
+        _ => drawing.content(),
     }
     drawing.finish()
 }
 
 /// The answer to a frame in bytes, drawn.
 pub fn of_bytes(reply: &Reply, format: Format, bytes: &[u8]) -> String {
-    let mut drawing = Drawing::of(reply);
+    let mut drawing = Drawing::of(reply, 0);
     drawing.frame(&Frame::of(format, anatomy::of_bytes(format, bytes), None));
     drawing.finish()
 }
-
-/// The refusals of which a drawing shows the place, or has a sentence of its own.
-const TOO_SHORT: u8 = 1;
-const BAD_LENGTH: u8 = 2;
-const WRONG_CHECK: u8 = 3;
-const NO_ROOM: u8 = 4;
-const BAD_WORD: u8 = 6;
-const NO_SYNC: u8 = 7;
-const UNKNOWN_TAIL: u8 = 8;
-const OUT_OF_RANGE: u8 = 10;
-const USED_UP: u8 = 14;
 
 /// A frame's bytes, and what each of them is.
 struct Frame<'a> {
@@ -119,6 +112,8 @@ impl<'a> Frame<'a> {
 /// A drawing that grows downwards.
 struct Drawing<'a> {
     reply: &'a Reply,
+    /// What the answer means, in a sentence.
+    meaning: String,
     svg: Svg,
     y: f64,
 }
@@ -130,12 +125,12 @@ fn x_of(at: usize) -> f64 {
 
 impl<'a> Drawing<'a> {
     /// The answer as its first line, and what it means.
-    fn of(reply: &'a Reply) -> Drawing<'a> {
-        let mut drawing = Drawing { reply, svg: Svg::default(), y: 26.0 };
+    fn of(reply: &'a Reply, start: usize) -> Drawing<'a> {
+        let mut drawing = Drawing { reply, meaning: meaning(reply, start), svg: Svg::default(), y: 26.0 };
         let verdict = if reply.number == 0 { "good" } else { "bad" };
         drawing.svg.text(Held::Left, RIGHT, drawing.y, &format!("answer {verdict}"), &headline(reply));
         drawing.y += 20.0;
-        drawing.svg.text(Held::Left, RIGHT, drawing.y, verdict, &meaning(reply));
+        drawing.svg.text(Held::Left, RIGHT, drawing.y, verdict, &drawing.meaning);
         drawing.y += 18.0;
         drawing
     }
@@ -164,14 +159,14 @@ impl<'a> Drawing<'a> {
         let tried = number(self.reply, "tried").map(|tried| format!(", {} tried", counted(tried as usize, "place")));
         let tried = tried.unwrap_or_default();
         self.svg.text(Held::Left, x + 16.0, self.y + 14.0, "", &format!("sync word at chip {sync}{tried}"));
-        let kind = frame.map_or("no kind of frame is told", |placed| kind_words(kind_name(placed.kind)));
+        let kind = frame.map_or("no kind of frame is told", |placed| words::kind_words(placed.kind));
         self.svg.text(Held::Left, x + 16.0, self.y + 32.0, "", kind);
         self.y += 74.0;
     }
 
     fn manchester(&mut self, frame: Option<Placed>) {
         let first = frame.map_or(0, |placed| placed.first);
-        let words = format!("{}, from chip {first} on", kind_words("Manchester-A"));
+        let words = format!("{}, from chip {first} on", words::kind_words(Kind::ManchesterWithA));
         self.svg.text(Held::Left, GUTTER, self.y + 4.0, "", &words);
         self.y += 18.0;
     }
@@ -184,7 +179,13 @@ impl<'a> Drawing<'a> {
         self.digits(x, y + 26.0, CHIP, there, &chips, false);
         let width = SYNC as f64 * CHIP;
         let missing = SYNC - there;
-        let class = if missing > 0 { "gone" } else if decided { "bad-box" } else { "box sync" };
+        let class = if missing > 0 {
+            "gone"
+        } else if decided {
+            "bad-box"
+        } else {
+            "box sync"
+        };
         self.svg.rect(x, y + 32.0, width, 24.0, class);
         let value = (0..SYNC).fold(0u16, |value, k| value << 1 | u16::from(chips(k)));
         let text = if missing > 0 { format!("{missing} missing") } else { format!("{name} {value:04X}") };
@@ -220,10 +221,9 @@ impl<'a> Drawing<'a> {
     fn noise(&mut self, on_air: &OnAir) {
         const CHIPS_A_ROW: usize = 144;
         const MOST_ROWS: usize = 8;
-        let rows = on_air.count().div_ceil(CHIPS_A_ROW);
+        let begin = on_air.start / CHIPS_A_ROW * CHIPS_A_ROW;
         let tried = on_air.start..on_air.start + number(self.reply, "tried").unwrap_or(0) as usize;
-        for row in 0..rows.min(MOST_ROWS) {
-            let first = row * CHIPS_A_ROW;
+        for first in (begin..on_air.count()).step_by(CHIPS_A_ROW).take(MOST_ROWS) {
             let there = (on_air.count() - first).min(CHIPS_A_ROW);
             self.lane(self.y + 12.0, &format!("chip {first}"));
             self.wave(GUTTER, self.y, CHIP, there, &|k| chip(on_air.chips, first + k));
@@ -234,7 +234,7 @@ impl<'a> Drawing<'a> {
             }
             self.y += 30.0;
         }
-        let left = on_air.count().saturating_sub(MOST_ROWS * CHIPS_A_ROW);
+        let left = on_air.count().saturating_sub(begin + MOST_ROWS * CHIPS_A_ROW);
         if left > 0 {
             self.lane(self.y + 4.0, &format!("and {} more", counted(left, "chip")));
             self.y += 20.0;
@@ -253,6 +253,20 @@ impl<'a> Drawing<'a> {
             self.y += 20.0;
         }
         self.content();
+        self.behind(frame);
+    }
+
+    /// Chips behind a frame that came whole.
+    fn behind(&mut self, frame: &Frame) {
+        let Some((on_air, placed)) = frame.air else {
+            return;
+        };
+        let behind = on_air.count().saturating_sub(placed.first + frame.cells.len() * placed.chips_a_byte());
+        if behind > 0 && !frame.blocks.is_empty() {
+            let words = format!("{} behind the frame, not looked at", counted(behind, "chip"));
+            self.svg.text(Held::Left, GUTTER, self.y + 4.0, "lane", &words);
+            self.y += 18.0;
+        }
     }
 
     /// The chips of a row of bytes, with the words of the line code and what each stands for.
@@ -278,7 +292,13 @@ impl<'a> Drawing<'a> {
         let (width, index) = (code.width(), (at - first) / code.width());
         let there = width.min(on_air.count() - at);
         let decided = self.decided_by_word(index);
-        let class = if decided { "bad-box" } else if index % 2 == 0 { "word" } else { "" };
+        let class = if decided {
+            "bad-box"
+        } else if index % 2 == 0 {
+            "word"
+        } else {
+            ""
+        };
         if !class.is_empty() {
             self.svg.rect(x, self.y - 3.0, unit * there as f64, HIGH + 18.0, class);
         }
@@ -294,7 +314,7 @@ impl<'a> Drawing<'a> {
     }
 
     fn decided_by_word(&self, index: usize) -> bool {
-        self.reply.number == BAD_WORD && number(self.reply, "word") == Some(index as u64)
+        self.reply.number == numbers::NOT_A_CODE_WORD && number(self.reply, "word") == Some(index as u64)
     }
 
     fn bytes(&mut self, frame: &Frame, row: Range<usize>) {
@@ -306,12 +326,13 @@ impl<'a> Drawing<'a> {
             let class = match cell {
                 Cell::Missing => "gone".into(),
                 _ if self.decided_at(frame, at) => "bad-box".into(),
-                _ => format!("box {}", class_of(field)),
+                _ => format!("box {}", words::class_of(field)),
             };
             self.svg.rect(x_of(at), self.y, BYTE, 26.0, &class);
             let (class, text) = match cell {
                 Cell::Byte(byte) => ("byte", format!("{byte:02X}")),
-                Cell::NoByte => ("byte bad", "?".into()),
+                Cell::NoByte if self.decided_in(frame, at) => ("byte bad", "?".into()),
+                Cell::NoByte => ("byte", "?".into()),
                 Cell::Missing => ("bad", "missing".into()),
             };
             self.svg.text(Held::Middle, x_of(at) + BYTE / 2.0, self.y + 18.0, class, &text);
@@ -322,10 +343,16 @@ impl<'a> Drawing<'a> {
     /// Whether the refusal says that this byte of the frame decided.
     fn decided_at(&self, frame: &Frame, at: usize) -> bool {
         match self.reply.number {
-            BAD_LENGTH => at == 0,
-            WRONG_CHECK => frame.fields[at] == Field::Check && frame.blocks[self.wrong_block()].contains(&at),
+            numbers::LENGTH_NOT_ALLOWED => at == 0,
+            numbers::WRONG_CHECK => frame.fields[at] == Field::Check && frame.blocks[self.wrong_block()].contains(&at),
             _ => false,
         }
+    }
+
+    /// Whether the word that decided is one of this byte's.
+    fn decided_in(&self, frame: &Frame, at: usize) -> bool {
+        let words_a_byte = frame.air.map_or(1, |(_, placed)| placed.chips_a_byte() / code_of(placed.kind).width());
+        (0..words_a_byte).any(|k| self.decided_by_word(at * words_a_byte + k))
     }
 
     /// The first wrong block, from 0.
@@ -338,7 +365,8 @@ impl<'a> Drawing<'a> {
         self.lane(self.y + 15.0, "fields");
         for run in frame.runs(row) {
             let middle = x_of(run.start) + BYTE * run.len() as f64 / 2.0;
-            self.svg.text(Held::Middle, middle, self.y + 15.0, "", &name_of(frame, &run));
+            let name = words::name_of(frame.fields[run.start], &frame.cells[run.clone()]);
+            self.svg.text(Held::Middle, middle, self.y + 15.0, "", &name);
         }
         self.y += 22.0;
     }
@@ -355,7 +383,7 @@ impl<'a> Drawing<'a> {
                 continue;
             }
             let (x, end) = (x_of(part.start) + 3.0, x_of(part.end - 1) + BYTE - 3.0);
-            let decided = self.reply.number == WRONG_CHECK && index == self.wrong_block();
+            let decided = self.reply.number == numbers::WRONG_CHECK && index == self.wrong_block();
             let (from, to) = (self.y + if part.start == block.start { 0.0 } else { 5.0 }, self.y + 5.0);
             let close = if part.end == block.end { format!("V{}", self.y) } else { String::new() };
             self.svg.path(&format!("M{x} {from}V{to}H{end}{close}"), if decided { "bad-line" } else { "line" });
@@ -371,9 +399,10 @@ impl<'a> Drawing<'a> {
         let name = format!("block {}", index + 1);
         match parts::checks(&frame.cells[block.clone()]) {
             Some((given, there)) if given == there => ("good", format!("{name}: check {there:04X} is right")),
-            Some((given, there)) => {
-                (if decided { "bad" } else { "lane" }, format!("{name}: check {there:04X}, but its bytes give {given:04X}"))
-            }
+            Some((given, there)) => (
+                if decided { "bad" } else { "lane" },
+                format!("{name}: check {there:04X}, but its bytes give {given:04X}"),
+            ),
             None if frame.cells[block.clone()].contains(&Cell::Missing) => ("bad", format!("{name} is not whole")),
             None => ("lane", format!("{name} cannot be checked")),
         }
@@ -394,13 +423,14 @@ impl<'a> Drawing<'a> {
             self.svg.text(Held::Left, GUTTER, self.y + 4.0, "mono", &shown.join(" "));
             self.y += 17.0;
         }
-        let what = format!("{}, handed over to the caller: all that is not L or a check", counted(content.len(), "byte"));
+        let size = counted(content.len(), "byte");
+        let what = format!("{size}, handed over to the caller: C, M, A, CI and the data, which has the reading");
         self.svg.text(Held::Left, GUTTER, self.y + 4.0, "lane", &what);
         self.y += 20.0;
     }
 
     fn finish(self) -> String {
-        self.svg.finish(WIDTH, self.y + 4.0, &format!("{}: {}", headline(self.reply), meaning(self.reply)), STYLE)
+        self.svg.finish(WIDTH, self.y + 4.0, &format!("{}: {}", headline(self.reply), self.meaning), STYLE)
     }
 }
 
@@ -409,99 +439,13 @@ fn said_here(block: &Range<usize>, part: &Range<usize>) -> bool {
     const WIDE: usize = 4;
     let last_row = (block.end - 1) / BYTES_A_ROW * BYTES_A_ROW;
     let last = block.start.max(last_row)..block.end;
-    if last.len() >= WIDE || last == *block { *part == last } else { part.end == last.start }
+    if last.len() >= WIDE || last == *block {
+        *part == last
+    } else {
+        part.end == last.start
+    }
 }
 
 fn chip(chips: &[u8], at: usize) -> bool {
     chips.get(at / 8).is_some_and(|byte| byte >> (7 - at % 8) & 1 == 1)
-}
-
-fn number(reply: &Reply, name: &str) -> Option<u64> {
-    reply.fields.0.iter().find_map(|(field, value)| match value {
-        Value::Number(number) if *field == name => Some(*number),
-        _ => None,
-    })
-}
-
-fn bytes<'a>(reply: &'a Reply, name: &str) -> Option<&'a [u8]> {
-    reply.fields.0.iter().find_map(|(field, value)| match value {
-        Value::Bytes(bytes) if *field == name => Some(&bytes[..]),
-        _ => None,
-    })
-}
-
-/// The answer without its bytes, which are drawn.
-fn headline(reply: &Reply) -> String {
-    let fields = reply.fields.0.iter().filter_map(|(name, value)| match value {
-        Value::Number(number) => Some(format!(" {name}={number}")),
-        Value::Word(word) => Some(format!(" {name}={word}")),
-        _ => None,
-    });
-    format!("{} {}{}", reply.number, reply.name, fields.collect::<String>())
-}
-
-/// What the answer means for this frame, in a sentence.
-fn meaning(reply: &Reply) -> String {
-    let told = |name| number(reply, name).unwrap_or(0);
-    match reply.number {
-        0 => "Accepted: everything that this frame must have is right.".into(),
-        TOO_SHORT => {
-            let chips = Some(told("missing-chips")).filter(|&chips| chips > 0).map(|chips| counted(chips as usize, "chip"));
-            let missing = chips.unwrap_or_else(|| counted(told("missing-bytes") as usize, "byte"));
-            format!("Refused: it ends too early by {missing}.")
-        }
-        BAD_LENGTH => "Refused: no frame of this format has this length byte.".into(),
-        WRONG_CHECK => format!("Refused: the check of block {} does not fit its bytes.", told("block")),
-        NO_ROOM => format!("Refused: the content has {} bytes, and {} were lent for it.", told("needs"), told("room")),
-        BAD_WORD => format!("Refused: word {} of the frame stands for nothing in its line code.", told("word")),
-        NO_SYNC => format!("Refused: none of the {} places in these chips has the sync word.", told("tried")),
-        UNKNOWN_TAIL => "Refused: the 16 chips behind the sync word are of no known kind.".into(),
-        USED_UP => {
-            format!("Refused: none of the {} places that were tried has the sync word, and places are left.", told("tried"))
-        }
-        _ => format!("Refused: {} was given where at most {} is allowed.", told("given"), told("limit")),
-    }
-}
-
-fn kind_words(kind: &str) -> &'static str {
-    match kind {
-        "T-A" => "mode T: three-of-six, six chips for half a byte, format A",
-        "C-A" => "mode C: NRZ, one chip for a bit, format A",
-        "C-B" => "mode C: NRZ, one chip for a bit, format B",
-        _ => "Manchester: two chips for a bit, format A",
-    }
-}
-
-fn class_of(field: Field) -> &'static str {
-    match field {
-        Field::L => "length",
-        Field::C => "control",
-        Field::M => "maker",
-        Field::A => "address",
-        Field::Ci => "ci",
-        Field::Extended(_) => "extended",
-        Field::Data => "data",
-        Field::Check => "check",
-        Field::NotJudged => "not-judged",
-    }
-}
-
-fn name_of(frame: &Frame, run: &Range<usize>) -> String {
-    match (frame.fields[run.start], &frame.cells[run.clone()]) {
-        (Field::L, [Cell::Byte(l)]) => format!("L: {l}"),
-        (Field::L, _) => "L".into(),
-        (Field::C, _) => "C".into(),
-        (Field::M, &[Cell::Byte(low), Cell::Byte(high)]) => match kusikhut::letters(u16::from_le_bytes([low, high])) {
-            Some(letters) => format!("M: {}", String::from_utf8_lossy(&letters)),
-            None => "M: no letters".into(),
-        },
-        (Field::M, _) => "M".into(),
-        (Field::A, _) => "A: address".into(),
-        (Field::Ci, _) => "CI".into(),
-        (Field::Extended(name), _) => name.into(),
-        (Field::Data, [_, _, ..]) => "data: the reading".into(),
-        (Field::Data, _) => "data".into(),
-        (Field::Check, _) => "check".into(),
-        (Field::NotJudged, _) => "not judged".into(),
-    }
 }

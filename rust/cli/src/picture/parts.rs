@@ -1,6 +1,7 @@
 //! The parts of a frame by their names: the fields of the link layer (12.5), and the blocks with their checks (12.3, 12.4).
 //! Where the blocks end is said here once more, for the drawing alone; a test compares it with what the library writes.
 use crate::anatomy::Cell;
+use crate::numbers;
 use kusikhut::{Format, Header};
 use std::ops::Range;
 
@@ -41,7 +42,8 @@ pub fn checks(cells: &[Cell]) -> Option<(u16, u16)> {
 pub fn fields(cells: &[Cell], blocks: &[Range<usize>]) -> Vec<Field> {
     let is_check = |at: usize| blocks.iter().any(|block| block.contains(&at) && at + 2 >= block.end);
     let body = (1..cells.len()).filter(|&at| !is_check(at)).skip(BEFORE_BODY);
-    let extended = extended(&body.map_while(|at| byte(cells[at])).collect::<Vec<u8>>());
+    // CI alone tells how long a header is: bytes of it that did not come have their names too.
+    let extended = extended(&body.map(|at| byte(cells[at]).unwrap_or(0)).collect::<Vec<u8>>());
     let mut content = 0;
     let field = |at: usize| match at {
         0 => Field::L,
@@ -55,11 +57,17 @@ pub fn fields(cells: &[Cell], blocks: &[Range<usize>]) -> Vec<Field> {
     (0..cells.len()).map(field).collect()
 }
 
+const NEXT: &str = "next CI";
+
 /// C, M and A.
 const BEFORE_BODY: usize = 9;
 
 fn byte(cell: Cell) -> Option<u8> {
-    if let Cell::Byte(byte) = cell { Some(byte) } else { None }
+    if let Cell::Byte(byte) = cell {
+        Some(byte)
+    } else {
+        None
+    }
 }
 
 fn of_content(place: usize, extended: &[&'static str]) -> Field {
@@ -72,13 +80,19 @@ fn of_content(place: usize, extended: &[&'static str]) -> Field {
     }
 }
 
-/// The names of the bytes behind CI, if the body begins with an extended header.
+/// The names of the bytes behind CI, if the body begins with an extended header. Behind one that encrypts nothing stands
+/// the CI of the next layer.
 fn extended(body: &[u8]) -> Vec<&'static str> {
     let named: &[(&str, usize)] = match Header::read(body) {
-        Ok((Header::Plain { .. }, _)) => &[("CC", 1), ("ACC", 1)],
+        Ok((Header::Plain { .. }, _)) => &[("CC", 1), ("ACC", 1), (NEXT, 1)],
         Ok((Header::Secured { .. }, _)) => &[("CC", 1), ("ACC", 1), ("SN", 4), ("CRC", 2)],
-        Ok((Header::Addressed { .. }, _)) => &[("CC", 1), ("ACC", 1), ("M2", 2), ("A2", 6)],
-        Ok((Header::AddressedSecured { .. }, _)) => &[("CC", 1), ("ACC", 1), ("M2", 2), ("A2", 6), ("SN", 4), ("CRC", 2)],
+        Ok((Header::Addressed { .. }, _)) => &[("CC", 1), ("ACC", 1), ("M2", 2), ("A2", 6), (NEXT, 1)],
+        Ok((Header::AddressedSecured { .. }, _)) => {
+            &[("CC", 1), ("ACC", 1), ("M2", 2), ("A2", 6), ("SN", 4), ("CRC", 2)]
+        }
+        Err(refusal) if refusal.number() == numbers::BODY_TOO_SHORT => {
+            &[("header, not whole", body.len().saturating_sub(1))]
+        }
         Err(_) => &[],
     };
     named.iter().flat_map(|&(name, bytes)| std::iter::repeat_n(name, bytes)).collect()
@@ -120,8 +134,10 @@ mod tests {
         for ci in [0x8C, 0x8D, 0x8E, 0x8F] {
             let body = [ci; 30];
             let (_, size) = Header::read(&body).expect("it is a header");
-            assert_eq!(extended(&body).len() as u64 + 1, size, "{ci:X}");
+            let named = extended(&body).into_iter().filter(|&name| name != NEXT);
+            assert_eq!(named.count() as u64 + 1, size, "{ci:X}");
         }
-        assert!(extended(&[0x78, 1]).is_empty() && extended(&[0x8C, 1]).is_empty() && extended(&[]).is_empty());
+        assert!(extended(&[0x78, 1]).is_empty() && extended(&[]).is_empty());
+        assert_eq!(extended(&[0x8C, 1]), ["header, not whole"]);
     }
 }
