@@ -23,7 +23,7 @@ pub fn version() -> String {
 pub const RULES: [&str; 5] = [
     "Bytes are hex digits, two for each, in the order in which they are sent, the first chip in the highest bit. Spaces, \
      colons and underscores may stand between bytes, and 0x before them. Put bytes with spaces into quotation marks, but \
-     where they come last, in groups of the same 2, 4 or 8 digits. - is no bytes, and 44+3*00 is 44 00 00 00.",
+     where they come last, in groups of the same 2 to 8 digits. - is no bytes, and 44+3*00 is 44 00 00 00.",
     "Numbers (places, sizes, counts, L) are decimal, or hex behind 0x.",
     "A line may have 16384 bytes, an argument stand for 65536, and room= be 131072: more is an error and no answer.",
     "An answer is its number, its name, and values as name=value; lines set in below it belong to it. A result's bytes stand \
