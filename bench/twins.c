@@ -1,5 +1,6 @@
 /* See twins.h. Answers are document 01's numbers; the twins look at no more than the benchmark needs. */
 #include "twins.h"
+#include "blocks.h"
 #include <string.h>
 
 static uint16_t crc_table[256];
@@ -17,11 +18,14 @@ void twins_init(void) {
     for (unsigned k = 0; k < 16; k++) half_of[words[k]] = (uint8_t)k;
 }
 
-uint16_t twin_check(const uint8_t *s, size_t n) {
+/* One table, and each byte waits for the register that the one before it leaves. */
+INLINED uint16_t check_of(const uint8_t *s, size_t n) {
     uint16_t r = 0;
     for (size_t i = 0; i < n; i++) r = (uint16_t)((r << 8) ^ crc_table[(r >> 8) ^ s[i]]);
     return (uint16_t)~r;
 }
+
+uint16_t twin_check(const uint8_t *s, size_t n) { return check_of(s, n); }
 
 /* Working the check of a changed span anew, for comparison with the update. */
 uint16_t twin_check_after(uint8_t *span, size_t n, size_t place, uint8_t byte) {
@@ -56,7 +60,7 @@ static inline unsigned cut(const uint8_t *chips, size_t len, size_t at, unsigned
     return two >> (16 - w - (at & 7)) & ((1u << w) - 1);
 }
 
-/* One word alone, of 8 (NRZ), 6 (three-of-six) or 2 chips (Manchester); the length is judged as the library judges it. */
+/* One word alone, of 8 (NRZ), 6 (three-of-six) or 2 chips (Manchester); the length is judged as the library does it. */
 static inline int word(unsigned w, const uint8_t *chips, size_t len, size_t at, uint8_t *value) {
     if (len > 1024 || at > 8 * len) return 10;
     if (8 * len - at < w) return 1;
@@ -73,7 +77,9 @@ static inline int word(unsigned w, const uint8_t *chips, size_t len, size_t at, 
     return y == 1 || y == 2 ? 0 : 6;
 }
 
-int twin_word_nrz(const uint8_t *chips, size_t len, size_t at, uint8_t *value) { return word(8, chips, len, at, value); }
+int twin_word_nrz(const uint8_t *chips, size_t len, size_t at, uint8_t *value) {
+    return word(8, chips, len, at, value);
+}
 
 int twin_word_three_of_six(const uint8_t *chips, size_t len, size_t at, uint8_t *value) {
     return word(6, chips, len, at, value);
@@ -94,62 +100,18 @@ int twin_decode_three_of_six(const uint8_t *chips, size_t len, size_t start, siz
     return 0;
 }
 
-size_t twin_size_a(size_t n) { return n + 3 + 2 * ((n - 9 + 15) / 16); }
+size_t twin_size_a(size_t n) { return size_a(n); }
 
 int twin_judge_a(const uint8_t *s, size_t len, size_t *size, size_t *wrong) {
-    if (len == 0) return 1;
-    if (s[0] < 10) return 2;
-    *size = twin_size_a(s[0]);
-    if (len < *size) return 1;
-    for (size_t at = 0, left = s[0] + 1u, k = 10; left > 0; k = left < 16 ? left : 16) {
-        uint16_t c = twin_check(s + at, k);
-        if (s[at + k] != c >> 8 || s[at + k + 1] != (c & 255)) {
-            *wrong = (at + 6) / 18 + 1; /* the first block has 12 bytes, each later one 18 */
-            return 3;
-        }
-        at += k + 2;
-        left -= k;
-    }
-    return 0;
+    return judge_a(check_of, s, len, size, wrong);
 }
 
 int twin_read_a(const uint8_t *s, size_t len, uint8_t *out, size_t out_len, size_t *n) {
-    size_t size, wrong;
-    int refused = twin_judge_a(s, len, &size, &wrong);
-    if (refused) return refused;
-    size_t l = s[0];
-    if (out_len < l) return 4;
-    memcpy(out, s + 1, 9);
-    for (size_t at = 12, done = 9; done < l;) {
-        size_t k = l - done < 16 ? l - done : 16;
-        memcpy(out + done, s + at, k);
-        done += k;
-        at += k + 2;
-    }
-    *n = l;
-    return 0;
-}
-
-static size_t put_block(uint8_t *out, size_t at, size_t k) {
-    uint16_t c = twin_check(out + at, k);
-    out[at + k] = (uint8_t)(c >> 8);
-    out[at + k + 1] = (uint8_t)c;
-    return at + k + 2;
+    return read_a(check_of, s, len, out, out_len, n);
 }
 
 int twin_write_a(const uint8_t *content, size_t n, uint8_t *out, size_t out_len) {
-    if (n < 10 || n > 255) return 5;
-    if (out_len < twin_size_a(n)) return 4;
-    out[0] = (uint8_t)n;
-    memcpy(out + 1, content, 9);
-    size_t at = put_block(out, 0, 10);
-    for (size_t done = 9; done < n;) {
-        size_t k = n - done < 16 ? n - done : 16;
-        memcpy(out + at, content + done, k);
-        at = put_block(out, at, k);
-        done += k;
-    }
-    return 0;
+    return write_a(check_of, content, n, out, out_len);
 }
 
 int twin_receive_t(const uint8_t *chips, size_t len, size_t start, size_t allowance, uint8_t *out, size_t out_len,

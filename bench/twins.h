@@ -1,4 +1,5 @@
-/* Plain C twins of the exported functions, for comparing speed alone: what a careful C programmer writes with tables. */
+/* Plain C twins of the exported functions, for comparing speed alone: what a careful C programmer writes with one table
+ * for each thing. best_twin.h has more of them for the check. */
 #ifndef TWINS_H
 #define TWINS_H
 #include <stddef.h>

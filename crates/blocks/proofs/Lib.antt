@@ -1,3 +1,4 @@
+pub mod CopyLaws
 pub mod SpanByteLaws
 pub mod SealLaws
 pub mod SpanLaws

@@ -63,8 +63,32 @@ pub fn first_wrong(s: &[u8], first: usize, later: usize, t: usize) -> Checks
     Checks::Right
 }
 
-// k bytes of src from place `from`, copied to dst from place `at`.
-pub fn copy_part(src: &[u8], from: usize, k: usize, dst: &mut [u8], at: usize)
+// Eight bytes of src from place `from`, copied to dst from place `at`. All are read before the first is stored: so they
+// become one load and one store, though the compiler does not know that src and dst do not overlap.
+fn copy_eight(src: &[u8], from: usize, dst: &mut [u8], at: usize)
+    requires { ⌜ (from + 8 ≤ length (now src)) × (at + 8 ≤ length (now dst)) ⌝ }
+    ensures { λ r. ⌜ now (dst .exit) ≡ paste (now (dst .entry)) at (drop from (now (src .entry))) 8 ⌝ }
+{
+    let a = src[from];
+    let b = src[from + 1];
+    let c = src[from + 2];
+    let d = src[from + 3];
+    let e = src[from + 4];
+    let f = src[from + 5];
+    let g = src[from + 6];
+    let h = src[from + 7];
+    dst[at] = a;
+    dst[at + 1] = b;
+    dst[at + 2] = c;
+    dst[at + 3] = d;
+    dst[at + 4] = e;
+    dst[at + 5] = f;
+    dst[at + 6] = g;
+    dst[at + 7] = h;
+}
+
+// k bytes, one by one: of many, the compiler makes a loop over vectors.
+fn copy_each(src: &[u8], from: usize, k: usize, dst: &mut [u8], at: usize)
     requires { ⌜ (from + k ≤ length (now src)) × (at + k ≤ length (now dst)) ⌝ }
     ensures { λ r. ⌜ now (dst .exit) ≡ paste (now (dst .entry)) at (drop from (now (src .entry))) k ⌝ }
 {
@@ -73,6 +97,24 @@ pub fn copy_part(src: &[u8], from: usize, k: usize, dst: &mut [u8], at: usize)
         dst[at + i] = src[from + i];
         i += 1;
     }
+}
+
+// k bytes of src from place `from`, copied to dst from place `at`. Fewer than 32, as of every span of format A, are too
+// few for that loop: eight at a time.
+pub fn copy_part(src: &[u8], from: usize, k: usize, dst: &mut [u8], at: usize)
+    requires { ⌜ (from + k ≤ length (now src)) × (at + k ≤ length (now dst)) ⌝ }
+    ensures { λ r. ⌜ now (dst .exit) ≡ paste (now (dst .entry)) at (drop from (now (src .entry))) k ⌝ }
+{
+    if 32 <= k {
+        copy_each(src, from, k, dst, at);
+        return;
+    }
+    let mut i: usize = 0;
+    while 8 <= k - i {
+        copy_eight(src, from + i, dst, at + i);
+        i += 8;
+    }
+    copy_each(src, from + i, k - i, dst, at + i);
 }
 
 // The n bytes behind the first one, without the checks, copied to the start of out. The first span is one byte

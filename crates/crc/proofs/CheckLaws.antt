@@ -1,6 +1,6 @@
 -- Laws of the check. All of it is linear: what two patterns do together is the sum of what each does alone.
 --     bitIn-high, bitIn-low      the definition of one bit's step, by cases of the highest bit
---     bitsIn-left, regOf-drop    one turn of a loop over bits, over the bytes of a slice
+--     regOf-drop                 one byte of a slice
 --     regOf-append               bytes after bytes
 --     bitIn-xor .. regOf-xor     linearity, from one bit to a list of bytes
 --     checkOf-xor                the sum of two checks has no complement in it
@@ -36,11 +36,7 @@ bitIn-low r low =
     let top : r / 32768 % 2 ≡ 0 = omega arith in
     rw (top, xor-zero-r)
 
--- ---- one step of a loop: up to eight bits, along a slice
-
-pub bitsIn-left : (n k r : ℕ) → k < n → bitsIn (n - (k + 1)) (bitIn r) ≡ bitsIn (n - k) r
-unfolding bitsIn
-bitsIn-left n k r h = let e : n - k ≡ suc (n - (k + 1)) = omega arith in rw e
+-- ---- along a slice
 
 pub regOf-drop :
     (s : List ℕ) (i r : ℕ) → i < length s → regOf (byteIn r (getD s i 0)) (drop (i + 1) s) ≡ regOf r (drop i s)

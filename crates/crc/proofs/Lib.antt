@@ -1,4 +1,8 @@
 pub mod CheckLaws
+pub mod RemainderLaws
+pub mod WordLaws
+pub mod FoldLaws
+pub mod TableLaws
 pub mod ShareLaws
 pub mod BackwardLaws
 pub mod UpdateLaws

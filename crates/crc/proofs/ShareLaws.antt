@@ -1,42 +1,40 @@
 -- Laws of a byte's share in the register, `shareOf`: what lets an update take few steps.
---     shareOf-add        the share further on: that many more zero bytes
---     regOf-zeros-pred   one turn of a loop over zero bytes
+--     shareOf-zero       the share of the byte 00
 --     shareOf-digits     the share of a byte from that of its upper bits and that of the byte 01
 --     shareOf-next       the same in a loop over the bits, highest first
 --     bit-mul-lt         a bit times a register is a register
+--     next-share, ones-listed   a table of the shares of 01 for every distance, each worked out from the one before it
 -- Assumes nothing.
+use mathlib.Core.Bool.{Bool}
 use mathlib.Core.Path.{_≡_, refl, sym, ap, ap₂, _∙_}
 use mathlib.Core.List.{List, _∷_}
-use Prim.Native.Nat.{ℕ, zero, suc, _+_, _*_, _-_, _/_, _%_, _^_, _<_}
+use Prim.Native.Nat.{ℕ, zero, suc, _+_, _*_, _-_, _/_, _%_, _^_, _<_, _≤_}
 use native.Mathlib.Nat.{zero-mul, one-mul}
 use native.Mathlib.Omega.{arith}
 use lib.Bits.{bitXor, xor-zero-r, xor-shifted}
 use lib.Pow.{shr-shr, shr-le}
-use lib.ListN.{replicate, length-replicate, replicate-append-replicate}
+use lib.Dec.{T, eqb, eqb→eq}
+use lib.ListN.{length, getD, replicate, length-replicate}
+use Rattle.ground.proofs.TableLaws.{allBelow, allBelow-at}
 use Rattle.crc.specs.Check.{bitIn, bitsIn, byteIn, regOf}
-use Rattle.crc.specs.CheckUpdate.{shareOf}
-use Rattle.crc.proofs.CheckLaws.{bitIn-low, bitsIn-xor, regOf-append, regOf-added}
+use Rattle.crc.specs.CheckUpdate.{shareOf, farthest}
+use Rattle.crc.specs.Inner.{Ones}
+use Rattle.crc.proofs.CheckLaws.{bitIn-low, bitsIn-xor, regOf-added}
+use Rattle.crc.proofs.RemainderLaws.{bitsIn-commute}
 
--- one zero byte of those that are left
-pub regOf-zeros-pred : (n r : ℕ) → 0 < n → regOf (byteIn r 0) (replicate (n - 1) 0) ≡ regOf r (replicate n 0)
+-- one more zero byte
+regOf-zeros-suc : (k r : ℕ) → byteIn (regOf r (replicate k 0)) 0 ≡ regOf r (replicate (suc k) 0)
 unfolding regOf
-regOf-zeros-pred zero r h = absurd (omega arith)
-regOf-zeros-pred (suc n) r h = let e : suc n - 1 ≡ n = omega arith in rw e
+regOf-zeros-suc zero r = refl
+regOf-zeros-suc (suc k) r = regOf-zeros-suc k (byteIn r 0)
 
-pub shareOf-add : (x j n : ℕ) → regOf (shareOf x j) (replicate n 0) ≡ shareOf x (j + n)
-unfolding shareOf
-shareOf-add x j n =
-    sym (regOf-append 0 (x ∷ replicate j 0) (replicate n 0))
-    ∙ ap (λ (zs : List ℕ). regOf 0 (x ∷ zs)) (replicate-append-replicate j n 0)
-
-bitsIn-bitIn : (n r : ℕ) → bitsIn n (bitIn r) ≡ bitIn (bitsIn n r)
-unfolding bitsIn
-bitsIn-bitIn zero r = refl
-bitsIn-bitIn (suc n) r = bitsIn-bitIn n (bitIn r)
+shareOf-suc : (x k : ℕ) → byteIn (shareOf x k) 0 ≡ shareOf x (suc k)
+unfolding shareOf regOf
+shareOf-suc x k = regOf-zeros-suc k (byteIn 0 x)
 
 byteIn-bitIn : (r : ℕ) → byteIn (bitIn r) 0 ≡ bitIn (byteIn r 0)
 unfolding byteIn
-byteIn-bitIn r = rw (xor-zero-r (bitIn r), xor-zero-r r) (bitsIn-bitIn 8 r)
+byteIn-bitIn r = rw (xor-zero-r (bitIn r), xor-zero-r r) (bitsIn-commute 8 r)
 
 regOf-zeros-bitIn : (k r : ℕ) → regOf (bitIn r) (replicate k 0) ≡ bitIn (regOf r (replicate k 0))
 unfolding regOf
@@ -65,7 +63,7 @@ byteIn-digits : (y : ℕ) → y < 256 → byteIn 0 y ≡ bitXor (bitIn (byteIn 0
 unfolding byteIn
 byteIn-digits y h =
     ap (bitsIn 8) (upper-digits y h) ∙ bitsIn-xor 8 (bitIn (y / 2 * 256)) (y % 2 * 256)
-    ∙ ap (λ (v : ℕ). bitXor v (bitsIn 8 (y % 2 * 256))) (bitsIn-bitIn 8 (y / 2 * 256))
+    ∙ ap (λ (v : ℕ). bitXor v (bitsIn 8 (y % 2 * 256))) (bitsIn-commute 8 (y / 2 * 256))
 
 shareOf-bit : (t k : ℕ) → t < 2 → shareOf t k ≡ t * shareOf 1 k
 shareOf-bit zero k h = shareOf-zero k ∙ sym (zero-mul (shareOf 1 k))
@@ -93,3 +91,20 @@ pub bit-mul-lt : (t r : ℕ) → t < 2 → r < 65536 → t * r < 65536
 bit-mul-lt zero r ht hr = rw zero-mul (omega arith)
 bit-mul-lt (suc zero) r ht hr = rw one-mul hr
 bit-mul-lt (suc (suc t)) r ht hr = absurd (omega arith)
+
+-- ---- a table of the shares of 01, each worked out from the one before it
+
+unfoldable pub next-share : List ℕ → ℕ → Bool
+next-share t k = eqb (getD t (suc k) 0) (byteIn (getD t k 0) 0)
+
+module _ (t : List ℕ) (size : length t ≡ 126) (first : getD t 0 0 ≡ shareOf 1 0)
+    (steps : T (allBelow (next-share t) 125)) where
+  listed-at : (k : ℕ) → k ≤ farthest → getD t k 0 ≡ shareOf 1 k
+  unfolding next-share
+  listed-at zero h = first
+  listed-at (suc k) h =
+      eqb→eq (getD t (suc k) 0) (byteIn (getD t k 0) 0) (allBelow-at (next-share t) 125 steps k (omega arith))
+      ∙ ap (λ (r : ℕ). byteIn r 0) (listed-at k (omega arith)) ∙ shareOf-suc 1 k
+
+  pub ones-listed : Ones t
+  ones-listed = record { count = size; share = listed-at }

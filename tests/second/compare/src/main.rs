@@ -1,16 +1,19 @@
 //! Runs the proved library and the second program on the same cases and compares numbers, every field of the rows of
 //! results, and every lent byte.
 //!
-//! - `compare SEED COUNT` takes every small input, and makes COUNT cases from SEED; then the first quarter of them and
-//!   the small inputs through the safe wrapper, which must say what the library said. Calls that it does not have are
-//!   left out there, and with them those of the settings store: the wrapper's store takes no memory from outside.
+//! - `compare SEED COUNT` takes checks of spans anywhere in memory and updates, then every small input, and makes COUNT
+//!   cases from SEED; then the first quarter of them and the small inputs through the safe wrapper, which must say what
+//!   the library said. Calls that it does not have are left out there, and with them those of the settings store: the
+//!   wrapper's store takes no memory from outside.
 //! - `compare sequences SEED COUNT` makes COUNT sequences of calls of the settings store, each on one memory, and holds
 //!   the promise of request 9/14 against the answers; then a store of the wrapper lives through the same calls, but for
 //!   those that it cannot be asked, and is held against the second program.
 //! - `compare patterns SEED COUNT` makes COUNT words with 3 to 16 wrong bytes, and some with more, and holds what the
 //!   library proposes against what was written and against the second program.
 //! - `compare words SEED COUNT` runs the program `words`, and with it the chip reader, on its edges and COUNT inputs.
-//! - `compare rerun` reads cases from standard input, one a line, and prints what both make of each.
+//! - `compare rerun` reads cases from standard input, one a line, and prints what both make of each; of a check also
+//!   where in memory it is wrong.
+mod checks;
 mod proved;
 #[path = "../../../../rust/kusikhut/src/raw.rs"]
 mod raw;
@@ -18,8 +21,9 @@ mod raw;
 mod tests;
 mod wrapped;
 
-use proved::Proved;
-use second::case::Case;
+use checks::{compare_checks, spans, updates};
+use proved::{check_in, Proved};
+use second::case::{Case, Operation};
 use second::compare::{compare, compare_cases, compare_small_inputs};
 use second::generator::{small_inputs, words_cases, Cases};
 use second::hidden::compare_hidden;
@@ -55,6 +59,7 @@ fn number(text: &str) -> Result<u64, String> {
 
 fn run(seed: &str, count: &str) -> Result<(), String> {
     let (seed, count) = (number(seed)?, number(count)?);
+    run_checks(seed)?;
     let differ = |d| format!("the proved library (first) and the second program differ, seed {seed}:\n{d}");
     let small = compare_small_inputs(&Proved, &Second).map_err(differ)?;
     let made = compare(&Proved, &Second, seed, count).map_err(differ)?;
@@ -68,6 +73,18 @@ fn run(seed: &str, count: &str) -> Result<(), String> {
     let made = compare_cases(&Proved, &Wrapped, quarter).map_err(differ)?;
     let (cases, inputs) = (made.total(), small.total());
     println!("tests/second: the wrapper says the same in {cases} of them and {inputs} inputs, of calls that it has");
+    Ok(())
+}
+
+fn run_checks(seed: u64) -> Result<(), String> {
+    let both = "the proved library (first) and the second program differ";
+    let checks = compare_checks(check_in, spans(seed)).map_err(|wrong| format!("{both}, seed {seed}:\n{wrong}"))?;
+    let made = compare_cases(&Proved, &Second, updates()).map_err(|d| format!("{both}:\n{d}"))?;
+    let updates = made.total();
+    println!(
+        "tests/second: no difference in {checks} checks, of every length up to 300 bytes and at 16 addresses, and in \
+        {updates} updates"
+    );
     Ok(())
 }
 
@@ -93,7 +110,9 @@ fn run_patterns(seed: &str, count: &str) -> Result<(), String> {
     let made = compare_patterns(&Proved, &Second, seed, count)
         .map_err(|miss| format!("the proved library (first) and the second program, seed {seed}:\n{miss}"))?;
     println!("{made}");
-    println!("tests/second: {count} words with 3 to 16 wrong bytes from seed {seed} mended by both, those with more alike");
+    println!(
+        "tests/second: {count} words with 3 to 16 wrong bytes from seed {seed} mended by both, those with more alike"
+    );
     Ok(())
 }
 
@@ -121,6 +140,11 @@ fn rerun() -> Result<(), String> {
         let case = Case::from_text(&line.map_err(|why| why.to_string())?)?;
         println!("proved: {}", case.run(&Proved));
         println!("second: {}", case.run(&Second));
+        if case.operation == Operation::Check {
+            if let Err(wrong) = compare_checks(check_in, [case.bytes("bytes").to_vec()]) {
+                println!("{wrong}");
+            }
+        }
     }
     Ok(())
 }

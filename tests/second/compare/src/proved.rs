@@ -12,6 +12,7 @@ use second::implementation::{CorrectionCalls, Implementation, MendingCalls, Stor
 use second::store::Address;
 use second::sync::Kind;
 use std::io::Write;
+use std::ops::Range;
 use std::process::{Command, Stdio};
 
 pub struct Proved;
@@ -64,6 +65,11 @@ pub fn told_floats(results: usize, call: impl FnOnce(*mut f64) -> u8) -> Answer 
 fn written(call: raw::BytesOut, bytes: &[u8], out: &mut [u8]) -> Answer {
     // Sound: both slices are valid for their lengths, and `told` lends one result.
     fenced(out, |o| told(1, |r| unsafe { call(bytes.as_ptr(), bytes.len(), o.as_mut_ptr(), o.len(), r) }))
+}
+
+/// The check of a span where it stands: a case would be a copy of it.
+pub fn check_in(memory: &[u8], span: Range<usize>) -> Answer {
+    Proved.check(&memory[span])
 }
 
 // Every call below is sound for the same reasons: slices are passed with their own lengths, what is lent to be written

@@ -1,4 +1,6 @@
 //! That the comparison can fail: something wrong is planted, and must be reported.
+mod checks;
+
 use crate::first_line_apart;
 use crate::proved::{fenced, shown, told, told_floats, Proved, UNWRITTEN};
 use crate::wrapped::WrappedStore;

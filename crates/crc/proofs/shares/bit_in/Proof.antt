@@ -1,8 +1,9 @@
--- `crc::bit_in` meets its contract: the code tests the highest bit, the definition multiplies by it. Assumes nothing.
+-- `crc::shares::bit_in` meets its contract: the code tests the highest bit, the definition multiplies by it.
+-- Assumes nothing.
 use native.Mathlib.Omega.{arith}
 use Rattle.crc.proofs.CheckLaws.{bitIn-high, bitIn-low}
-use Rattle.crc.proofs.bit_in.Statement.{statement}
-use Rattle.crc.proofs.bit_in.Tie as tie
+use Rattle.crc.proofs.shares.bit_in.Statement.{statement}
+use Rattle.crc.proofs.shares.bit_in.Tie as tie
 
 returns : tie.Need-returns
 returns c = bitIn-high _ (omega arith) (omega arith)

@@ -1,5 +1,5 @@
--- `crc::share` meets its contract. The loop's invariant: the sum is the share of the bits of x above the lowest k.
--- The measure is k. Assumes nothing.
+-- `crc::shares::share` meets its contract. The loop's invariant: the sum is the share of the bits of x above the
+-- lowest k. The measure is k. Assumes nothing.
 use mathlib.Core.Path.{_≡_, sym, ap, _∙_}
 use Prim.Native.Nat.{ℕ, _/_, _^_, _≤_}
 use native.Mathlib.Nat.{div-one}
@@ -7,8 +7,8 @@ use native.Mathlib.Omega.{arith}
 use borrow.Author.Needs.{needs}
 use Rattle.crc.specs.CheckUpdate.{shareOf}
 use Rattle.crc.proofs.ShareLaws.{shareOf-zero, shareOf-next, bit-mul-lt}
-use Rattle.crc.proofs.share.Statement.{statement}
-use Rattle.crc.proofs.share.Tie as tie
+use Rattle.crc.proofs.shares.share.Statement.{statement}
+use Rattle.crc.proofs.shares.share.Tie as tie
 
 abbrev Inv-loop : tie.InvT-loop
 Inv-loop x distance one sum₀ k₀ sum k = (k ≤ 8) × (sum ≡ shareOf (x / 2 ^ k) distance)
