@@ -3,9 +3,9 @@
 --     row-none .. row-two   the register with no zero byte behind the byte, with one, with two, cut out of the row
 -- Assumes nothing.
 use mathlib.Core.Path.{_≡_}
-use Prim.Native.Nat.{ℕ, zero, suc, _+_, _*_, _/_, _%_, _<_}
+use Prim.Native.Nat.{ℕ, zero, suc, _*_, _/_, _%_, _<_}
 use native.Mathlib.Omega.{arith}
-use lib.Bits.{bitXor, xor-lt}
+use lib.Bits.{xor-lt}
 use Rattle.checktable.specs.Rows.{step, steps, rowOf}
 
 step-lt : (r : ℕ) → step r < 65536
