@@ -1,6 +1,6 @@
 -- What the rows of the table are (EN 13757-4:2019, 12.5.7; document 02, 3/14). Nobody needs to believe these words: the
 -- crate `crc`, which answers by its own definition of the check, proves from them that it does.
---     step r        a register steps by one digit, the polynomial 3D65h added if a one fell out at the top
+--     step r        a register moved by one digit, the polynomial 3D65h added if a one fell out at the top
 --     steps n r     n such steps
 --     rowOf b       three registers of sixteen digits each, highest first: after the byte b and two zero bytes, after
 --                   b and one, after b alone. A byte is fed into 0 by sixteen steps from its number: eight bring it to
