@@ -166,6 +166,7 @@ def of_input(program, data):
 
 RECEIVED = "0F44AE0C7856341201074447780B134465871E6D2104" \
            "84EA276958EC76A29678BF51DFED7661D46D36B8523BAE787CEFFD7B007EC9C6"
+SENT, CAME = ("0F44AE0C7856341201074447780B13" + value + "1E6D" for value in ("436587", "4258E2"))
 EXAMPLE = f"""# a comment
 write A +10*00 room=16 show=lent
 search - allowance=0
@@ -176,6 +177,7 @@ channel 5 0
 filter 44AE0C785634120107 AE0C785634120107
 band B
 mend A {RECEIVED}
+damage A {SENT} {CAME}
 check -  # behind a command
 decode nrz - 0 0
 read A 4
@@ -206,6 +208,7 @@ PLANTED = {
     "a row that is missing": (b',{"index":6,"channel":0,"hertz":169481250}', b""),
     "another answer below": (b'"reading":{"answer":0', b'"reading":{"answer":3'),
     "a field behind what is below": (b'"covered":false}', b'"covered":false},"size":1'),
+    "a truth turned over": (b'"length-byte-changed":false', b'"length-byte-changed":true'),
     "another message": (b"a byte is two", b"a byte is four"),
     "a message without its word": (b',"word":3', b""),
     "a message without usage": (b',"usage":', b',"use":'),

@@ -35,8 +35,8 @@ SHAPES = [
     "receive bytes", "manchester bytes", "send kind bytes", "search bytes", "read format bytes", "write format bytes",
     "change format bytes number byte", "size format number", "write-correction format bytes", "check-bytes bytes",
     "correction-header bytes", "mend format bytes", "mend format bytes bytes", "check bytes",
-    "update word byte byte number", "decode code bytes number number", "encode code bytes", "word code bytes number",
-    "header bytes", "write-header ci byte byte word bytes", "access byte", "letters option",
+    "damage format bytes bytes", "update word byte byte number", "decode code bytes number number", "encode code bytes",
+    "word code bytes number", "header bytes", "write-header ci byte byte word bytes", "access byte", "letters option",
     "filter bytes bytes bytes option", "channel number number", "band format", "help number", "help code",
     "picture fly bytes", "store bytes number",
 ]

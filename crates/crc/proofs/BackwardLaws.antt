@@ -1,6 +1,8 @@
 -- A register can be run backwards, so every check is that of a span with the byte that one wants at the place that one
 -- wants. Hence 01's words on the update alone, `Mends`, leave one answer only.
 --     bitOut, bitsOut     the steps back: bitIn-bitOut, bitsIn-bitsOut
+--     regOf-zeros         zero bytes are steps of the register
+--     regOf-pair          two bytes are their sixteen bits, moved on
 --     Span c old k        a span of bytes that has the check c and the byte `old` with k bytes behind it
 --     span-of             there is one for every check of sixteen bits, every byte and every distance
 --     mends-settled       two answers that mend coincide
@@ -82,7 +84,7 @@ bitsIn-add (suc m) n r =
     let e : suc (m + n) ≡ suc m + n = omega arith in
     bitsIn-add m n (bitIn r) ∙ ap (λ (j : ℕ). bitsIn j r) e
 
-regOf-zeros : (k r : ℕ) → regOf r (replicate k 0) ≡ bitsIn (k * 8) r
+pub regOf-zeros : (k r : ℕ) → regOf r (replicate k 0) ≡ bitsIn (k * 8) r
 unfolding regOf byteIn bitsIn
 regOf-zeros zero r = refl
 regOf-zeros (suc k) r =
@@ -99,10 +101,10 @@ unfolding lifted bitsIn bitIn
 bitsIn-byte b h = eqb→eq (bitsIn 8 b) (b * 256) (allBelow-at lifted 256 tt b h)
 
 -- sixteen bits as two bytes
-abbrev pairOf : ℕ → List ℕ
+abbrev pub pairOf : ℕ → List ℕ
 pairOf w = w / 256 ∷ w % 256 ∷ []
 
-regOf-pair : (w : ℕ) → regOf 0 (pairOf w) ≡ bitsIn 16 w
+pub regOf-pair : (w : ℕ) → regOf 0 (pairOf w) ≡ bitsIn 16 w
 unfolding regOf byteIn
 regOf-pair w =
     let a = w / 256 in

@@ -45,9 +45,13 @@ use Rattle.proposals.proofs.ProposalLaws.{taken-exactly}
 use Rattle.proposals.proofs.WrittenLaws.{taken-once, taken-judged}
 use Rattle.proposals.proofs.TwoLengths.{heard, short, long, all-are-bytes, long-is, short-is}
 use Rattle.proposals.proofs.SixteenLaws.{nearest-first, nearest-else, mends}
+use Rattle.damage.proofs.BurstLaws.{bursts}
+use Rattle.damage.proofs.FewBitsLaws.{few-bits}
+use Rattle.damage.proofs.Unseen.{limits, unseen-not-always}
+use Rattle.airdamage.proofs.SeenLaws.{chips-seen, not-received}
 use Rattle.proposals.proofs.Seventeen.{heard17, sent, other, all-bytes17, sent-is, other-is}
 use Rattle.kusikhut.specs.Told.{told, refusalPlace}
-use Rattle.demands.specs.Demands.{ChipNumbers, FrameNumbers, MeterNumbers, StoreNumbers, Plain, AcceptedRows, RefusedRows, StoreRows, InCodes, InHeaders, InBytes, InChips, Changes, StoreFiles, StoreMeters, StorePromise, CorrectionNumbers, CorrectionPromise, MendingNumbers, MendingPromise, SixteenPromise}
+use Rattle.demands.specs.Demands.{ChipNumbers, FrameNumbers, MeterNumbers, StoreNumbers, Plain, AcceptedRows, RefusedRows, StoreRows, InCodes, InHeaders, InBytes, InChips, Changes, StoreFiles, StoreMeters, StorePromise, CorrectionNumbers, CorrectionPromise, MendingNumbers, MendingPromise, SixteenPromise, DamagePromise}
 use Rattle.demands.specs.Cases.{Spells}
 use Rattle.demands.specs.Touched.{Touched}
 use Rattle.demands.proofs.LineRuleLaws as line
@@ -354,4 +358,15 @@ sixteen-promise =
       mended-and-read = sixteen-and-read;
       taken-or-none = taken-or-none;
       seventeen = (heard17, (sent, (other, (all-bytes17, (sent-is, other-is)))));
+    }
+
+pub damage-promise : DamagePromise
+damage-promise =
+    record {
+      bursts = bursts;
+      few-bits = few-bits;
+      limits = limits;
+      no-more = unseen-not-always;
+      in-chips = chips-seen;
+      not-received = not-received;
     }

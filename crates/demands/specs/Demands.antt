@@ -38,6 +38,7 @@ use Rattle.chipreader.specs.Steps.{startOf, stepOf, readerAt, readerAfter}
 use Rattle.sync.specs.declared.Kind.{Kind}
 use Rattle.sync.specs.declared.Sync.{Sync}
 use Rattle.sync.specs.declared.Tail.{Tail}
+use Rattle.sync.specs.Kinds.{leadOf}
 use Rattle.sync.specs.SyncSearch.{searchOf}
 use Rattle.sync.specs.Tails.{tailOf}
 use Rattle.crc.specs.Check.{checkOf}
@@ -50,11 +51,14 @@ use Rattle.frame.specs.Judging.{judgeOf}
 use Rattle.frame.specs.Reads.{readingOf, Handed}
 use Rattle.frame.specs.Writes.{writingOf}
 use Rattle.frame.specs.Changes.{changingOf, Edit, changing, answersOf, edited, lastAt, placeOf, checkPlaceOf}
+use Rattle.damage.specs.Seen.{AlwaysSeen, Unseen}
+use Rattle.damage.specs.Promise.{BurstsSeen, FewBitsSeen, Limits}
 use Rattle.radio.specs.declared.Reception.{Reception}
 use Rattle.radio.specs.KindParts.{formatOf}
 use Rattle.radio.specs.Receiving.{receptionOf, manchesterOf}
-use Rattle.radio.specs.Sending.{sendingOf, airSize, sentChips}
+use Rattle.radio.specs.Sending.{sendingOf, airSize, sentChips, SentAt}
 use Rattle.radio.specs.Heard.{searched, receivingOf, firstTry, Heard, heardOf}
+use Rattle.airdamage.specs.ChipDamage.{ChipBurst, NeverSent, ChipsSeen}
 use Rattle.header.specs.declared.layout.Header.{Header}
 use Rattle.header.specs.declared.reading.HeaderReading.{HeaderReading}
 use Rattle.header.specs.AccessBits.{accessOf, accessRow}
@@ -662,3 +666,25 @@ pub record SixteenPromise : Type 0 where
       × (((e : List ℕ) → 52 ≤ length e
       → proposingOf 16 Format.A s e ≡ record { answer = Written.Accepted 52; memory = p ++ drop 52 e })
       × ((proposalOf Format.A p s ≡ Proposal.Taken 16) × (judgeOf Format.A p ≡ Frame.Accepted 20 15)))))))
+
+-- Document 02, 13/14, what damage is always seen (damage/specs). Take a frame that reading accepts and invert at least
+-- one bit of it, all inverted bits lying within 16 consecutive bits, highest bit of a byte first. The result is always
+-- refused, whatever bytes stand behind it: in format A wherever these bits lie, the length byte and block borders
+-- included; in format B where the length byte is not among the changed. Refused means: with 1, 2 or 3, whatever memory
+-- is lent, and the memory stays; no content at all has its frame there; and where the length byte is not among the
+-- changed the number is 3. `bursts` says so of exactly these widths, `few-bits` the same of numbers of inverted bits.
+-- `limits` has the frames that show why no more is promised; by `no-more` what can go unseen is not always seen.
+-- In chips (airdamage/specs): within how many consecutive inverted chips no frame of the same kind can stand where one
+-- was sent; so none is received there, by whatever call (`not-received`).
+pub record DamagePromise : Type 1 where
+  pub bursts : BurstsSeen
+  pub few-bits : FewBitsSeen
+  pub limits : Limits
+  pub no-more :
+      (f : Format) (kind : List ℕ → List ℕ → Type 0) (old new : List ℕ) → Unseen f kind old new → AlwaysSeen f kind → ⊥
+  pub in-chips : ChipsSeen
+  pub not-received :
+      (k : Kind) (w skip : ℕ) → NeverSent k w skip → (s t : List ℕ) (place : ℕ) (c : List ℕ) → SentAt k s place c
+      → ChipBurst w (place + leadOf k + skip) (place + sentChips k (length c)) s t
+      → (j : Kind) (start a : ℕ) (d : List ℕ) (tried z n : ℕ)
+      → receivingOf j t start a d .answer ≡ Reception.Accepted k place tried z n → ⊥

@@ -4,6 +4,7 @@
 --     allBelow f n    the test f passes at every number below n
 --     allBelow-at     then it passes at each of them
 --     passed          a test that passes is true
+--     all-bytes       a list whose elements pass the test, one by one, is of bytes
 -- A table of the source that follows a rule f is `values f n 0` by computation: `getD-values` is its whole proof.
 -- Assumes nothing.
 use mathlib.Core.Path.{_≡_, refl, ap, _∙_, sym, subst}
@@ -13,9 +14,12 @@ use mathlib.Core.List.{List, [], _∷_}
 use Prim.Native.Nat.{ℕ, zero, suc, _+_, _<_}
 use native.Mathlib.Nat.{le-of-suc-le-suc, not-suc-le-zero, eq-or-lt-of-le}
 use native.Mathlib.Omega.{arith}
-use lib.Dec.{T}
+use borrow.Author.Tests.{ltb-true, ltb-false}
+use lib.Dec.{T, ltb, ltb→lt}
 use lib.Ieee.Fits.{and-l, and-r}
-use lib.ListN.{getD}
+use lib.ListN.{length, getD, List·getD-eq-default}
+use Rattle.ground.specs.Bytes.{Bytes}
+use Rattle.ground.proofs.CaseLaws.{by-test}
 
 abbrev pub values : {A : Type 0} → (ℕ → A) → ℕ → ℕ → List A
 values f zero i = []
@@ -48,3 +52,9 @@ allBelow-at f (suc n) t k h =
 pub passed : (t : Bool) → T t → t ≡ true
 passed true p = refl
 passed false p = absurd p
+
+pub all-bytes : (w : List ℕ) → T (allBelow (λ j. ltb (getD w j 0) 256) (length w)) → Bytes w
+all-bytes w t j =
+    by-test (ltb j (length w))
+    (λ e. ltb→lt (getD w j 0) 256 (allBelow-at (λ i. ltb (getD w i 0) 256) (length w) t j (ltb-true j (length w) e)))
+    (λ e. rw (List·getD-eq-default w 0 (ltb-false j (length w) e)) (omega arith))

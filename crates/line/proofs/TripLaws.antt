@@ -1,6 +1,7 @@
 -- Decoding undoes encoding and encoding undoes decoding, over every lawful line code and every place in a buffer.
 --     Holds κ s start b     the chips of s from `start` on are those of the code words of b
---     goodRun-encode        then every word is a code word
+--     valueAt-holds         then word i stands for the bits of b that it codes
+--     goodRun-encode        so every word is a code word
 --     decode-encode         and the bytes decoded there are b
 --     encode-decode         where every word is a code word, the chips are those of the bytes decoded there
 --     Encodes κ s start n   some n bytes whose code words stand there
@@ -10,6 +11,7 @@
 --     chipAt-encoding       chip k of the encoding; 0 behind the last
 --     decoding-encoding     decoding what was encoded gives back the bytes
 --     encoding-decoding     encoding what was decoded gives back the chips
+--     div-lt-of-lt-mul, wordsIn-mul-bits    which word a chip or bit belongs to
 --     length-encoding, encoding-lt, length-decoding, decoding-lt
 use mathlib.Core.Path.{_≡_, refl, ap, sym, _∙_}
 use mathlib.Core.Bool.{true}
@@ -44,11 +46,11 @@ abbrev pub Holds : LineCode → List ℕ → ℕ → List ℕ → Type 0
 Holds κ s start b = (k : ℕ) → k < chipsIn κ (length b) → chipAt s (start + k) ≡ encodedChip κ b k
 
 -- the word that chip or bit k belongs to
-div-lt-of-lt-mul : (w k m : ℕ) → 0 < w → k < m * w → k / w < m
+pub div-lt-of-lt-mul : (w k m : ℕ) → 0 < w → k < m * w → k / w < m
 div-lt-of-lt-mul w k m pos h = div-lt-iff-lt-mul pos .1 h
 
 -- n bytes are so many words' bits
-wordsIn-mul-bits : {κ : LineCode} → Lawful κ → (n : ℕ) → wordsIn κ n * κ .bits ≡ 8 * n
+pub wordsIn-mul-bits : {κ : LineCode} → Lawful κ → (n : ℕ) → wordsIn κ n * κ .bits ≡ 8 * n
 wordsIn-mul-bits law n = rw (mul-assoc, law .whole) (omega arith)
 
 module _ {κ : LineCode} (law : Lawful κ) (s : List ℕ) (start : ℕ) where
@@ -60,7 +62,7 @@ module _ {κ : LineCode} (law : Lawful κ) (s : List ℕ) (start : ℕ) where
         (λ k lt. let place : start + i * κ .chips + k ≡ start + (i * κ .chips + k) = omega arith in
         rw place (holds (i * κ .chips + k) (omega (arith, mul-add-le i (wordsIn κ (length b)) (κ .chips) h))))
 
-    valueAt-holds : (i : ℕ) → i < wordsIn κ (length b) → valueAt κ s start i ≡ Is (wordAt b (i * κ .bits) (κ .bits))
+    pub valueAt-holds : (i : ℕ) → i < wordsIn κ (length b) → valueAt κ s start i ≡ Is (wordAt b (i * κ .bits) (κ .bits))
     valueAt-holds i h =
         ap (wordValue κ) (wordAt-holds i h ∙ gather-encodedChip law b i)
         ∙ law .back (wordAt b (i * κ .bits) (κ .bits)) (gather-lt (chipAt b) (chipAt-lt b) (i * κ .bits) (κ .bits))

@@ -15,6 +15,7 @@ use Rattle.answers.specs.declared.Written.{Written}
 use Rattle.ground.specs.Apart.{apart}
 use Rattle.ground.specs.Bytes.{Bytes}
 use Rattle.ground.specs.Sums.{xors}
+use Rattle.ground.proofs.TableLaws.{all-bytes}
 use Rattle.crc.specs.Check.{bitIn, bitsIn, byteIn, regOf, checkOf}
 use Rattle.blocks.specs.Spans.{sizeOf, cut, blockOk, firstWrong}
 use Rattle.field.specs.Field.{up, timesBits, mul}
@@ -31,7 +32,7 @@ use Rattle.proposals.specs.Proposals.{proposalOf, proposingOf}
 use Rattle.proposals.proofs.CodeLaws.{checks-code}
 use Rattle.proposals.proofs.ReceivedLaws.{bytes-received}
 use Rattle.proposals.proofs.WrittenLaws.{Sent, word-proposed}
-use Rattle.proposals.proofs.WorkedLaws.{all-bytes, worked-taken}
+use Rattle.proposals.proofs.WorkedLaws.{worked-taken}
 
 abbrev sentFrame : List ℕ
 sentFrame =

@@ -15,6 +15,7 @@ use lib.ListN.{take, drop}
 use Rattle.ground.specs.Apart.{apart}
 use Rattle.ground.specs.Bytes.{Bytes}
 use Rattle.ground.specs.Sums.{xors}
+use Rattle.ground.proofs.TableLaws.{all-bytes}
 use Rattle.crc.specs.Check.{bitIn, bitsIn, byteIn, regOf, checkOf}
 use Rattle.blocks.specs.Spans.{sizeOf, cut, blockOk, firstWrong}
 use Rattle.field.specs.Field.{up, timesBits, mul}
@@ -28,7 +29,7 @@ use Rattle.codewords.proofs.NumbersLaws.{checksOf-numbers}
 use Rattle.proposals.specs.declared.Proposal.{Proposal}
 use Rattle.proposals.specs.Received.{notTooLong, sizeIn}
 use Rattle.proposals.specs.Proposals.{proposalOf}
-use Rattle.proposals.proofs.WorkedLaws.{all-bytes, worked-taken}
+use Rattle.proposals.proofs.WorkedLaws.{worked-taken}
 
 abbrev longFrame : List ℕ
 longFrame =

@@ -15,6 +15,7 @@ use Rattle.answers.specs.declared.Refusal.{Refusal}
 use Rattle.ground.specs.Apart.{apart}
 use Rattle.ground.specs.Bytes.{Bytes}
 use Rattle.ground.specs.Sums.{xors}
+use Rattle.ground.proofs.TableLaws.{all-bytes}
 use Rattle.field.specs.Field.{up, timesBits, mul, alphaTo}
 use Rattle.field.specs.Polynomials.{evalFrom, scaled}
 use Rattle.blocks.specs.Spans.{sizeOf, cut}
@@ -31,7 +32,7 @@ use Rattle.proposals.specs.Received.{notTooLong, sizeIn, received}
 use Rattle.proposals.specs.Near.{allZero, isCodeBlock}
 use Rattle.proposals.specs.Proposals.{compared, proposalBy, proposalOf}
 use Rattle.proposals.proofs.ProposalLaws.{proposal-compared, compared-far}
-use Rattle.proposals.proofs.WorkedLaws.{all-bytes, worked-code, worked-taken}
+use Rattle.proposals.proofs.WorkedLaws.{worked-code, worked-taken}
 
 -- what was sent, and what came of it: the first n bytes wrong, the header too
 abbrev word : List ℕ

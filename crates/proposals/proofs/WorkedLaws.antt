@@ -1,5 +1,4 @@
 -- Examples with numbers: w is a frame, c its check bytes, r what was received.
---     all-bytes       a list whose elements pass the test, one by one, is of bytes
 --     worked-code     check bytes that were worked out make a code word
 --     worked-taken    a proposal whose differing bytes were counted is taken
 -- Assumes nothing.
@@ -8,13 +7,9 @@ use mathlib.Core.List.{List, _++_}
 use mathlib.Core.Path.{_≡_, ap, _∙_}
 use Prim.Native.Nat.{ℕ, _+_, _≤_}
 use native.Mathlib.Omega.{arith}
-use borrow.Author.Tests.{ltb-true, ltb-false}
-use lib.Dec.{T, ltb, ltb→lt}
-use lib.ListN.{length, getD, take, List·getD-eq-default}
+use lib.ListN.{length, take}
 use Rattle.ground.specs.Apart.{apart}
 use Rattle.ground.specs.Bytes.{Bytes}
-use Rattle.ground.proofs.CaseLaws.{by-test}
-use Rattle.ground.proofs.TableLaws.{allBelow, allBelow-at}
 use Rattle.frame.specs.declared.Format.{Format}
 use Rattle.frame.specs.declared.Frame.{Frame}
 use Rattle.codewords.specs.CheckBytes.{checksOf}
@@ -24,12 +19,6 @@ use Rattle.proposals.specs.Near.{isCodeBlock}
 use Rattle.proposals.specs.Proposals.{compared, proposalOf}
 use Rattle.proposals.proofs.CodeLaws.{checks-code, code-isCodeBlock}
 use Rattle.proposals.proofs.ProposalLaws.{proposal-compared, compared-taken}
-
-pub all-bytes : (w : List ℕ) → T (allBelow (λ j. ltb (getD w j 0) 256) (length w)) → Bytes w
-all-bytes w t j =
-    by-test (ltb j (length w))
-    (λ e. ltb→lt (getD w j 0) 256 (allBelow-at (λ i. ltb (getD w i 0) 256) (length w) t j (ltb-true j (length w) e)))
-    (λ e. rw (List·getD-eq-default w 0 (ltb-false j (length w) e)) (omega arith))
 
 pub worked-code : (w c : List ℕ) → Bytes w → c ≡ checksOf w → isCodeBlock (w ++ c) ≡ true
 worked-code w c bytes checks = code-isCodeBlock (w ++ c) (checks-code w bytes checks)

@@ -27,6 +27,11 @@ pub struct Lent {
 pub const MOST_LENT: usize = 131_072;
 
 impl Lent {
+    /// So many bytes for a command without the options, of which nothing but the result is told.
+    pub fn unasked(size: usize) -> Lent {
+        Lent { bytes: vec![0; size], sized: false, shown: false }
+    }
+
     /// The result at the start of the memory under its own name, whole, and how many bytes are left if `room` was given.
     pub fn result(&self, fields: Fields, name: &'static str, size: u64) -> Fields {
         let fields = fields.bytes(name, &self.bytes[..size as usize]);

@@ -4,6 +4,7 @@ mod address;
 mod channels;
 mod correction;
 mod crc;
+mod damage;
 mod filter;
 pub mod frame;
 mod header;
@@ -48,6 +49,7 @@ pub fn commands() -> impl Iterator<Item = &'static Command> {
         radio::COMMANDS,
         sync::COMMANDS,
         frame::COMMANDS,
+        damage::COMMANDS,
         picture::COMMANDS,
         correction::COMMANDS,
         mending::COMMANDS,

@@ -1,0 +1,3 @@
+pub mod WordLaws
+pub mod ChipLaws
+pub mod SeenLaws

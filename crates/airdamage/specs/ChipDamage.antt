@@ -1,0 +1,58 @@
+-- Damage of a frame in chips (document 02, 13/14, and what it means on the air): s is what was sent, t what came.
+--     Flipped s t p            chip p came inverted
+--     ChipBurst w from end s t at least one chip came inverted; all that did stand from place `from` on and before
+--                              `end`, within w consecutive chips
+--     NeverSent k w skip       take any frame of kind k in chips, and such damage of its chips behind the sync chips
+--                              and the next `skip` ones: no content at all, sent as kind k, has its chips there
+--     wordChips κ y            the chips of the word y, first chip first
+--     EvenlyApart κ            two code words differ in an even number of chips: so a code word with an odd number of
+--                              inverted chips is none, and is refused with 6 already
+--     ChipsSeen                this of three-of-six and Manchester; and for how many consecutive chips no frame of the
+--                              kind can stand there, kind by kind. Of mode C with format B the chips of the length
+--                              byte are not among the inverted
+-- SentAt is what demand 2 measures receiving by: so nothing is received there as kind k.
+use mathlib.Core.List.{List}
+use mathlib.Core.Path.{_≡_}
+use Prim.Native.Nat.{ℕ, _+_, _-_, _/_, _%_, _≤_, _<_, _^_}
+use lib.ListN.{length}
+use Rattle.ground.specs.Apart.{apart}
+use Rattle.chips.specs.Chips.{chipAt}
+use Rattle.chips.specs.Packing.{tabulate}
+use Rattle.line.specs.declared.codes.Code.the-variants.{ThreeOfSix, Manchester}
+use Rattle.line.specs.Codes.{LineCode, codeOf}
+use Rattle.sync.specs.declared.Kind.{Kind}
+use Rattle.sync.specs.declared.Kind.the-variants.{TWithA, CWithA, CWithB, ManchesterWithA}
+use Rattle.sync.specs.Kinds.{leadOf}
+use Rattle.radio.specs.Sending.{sentChips, SentAt}
+
+abbrev pub Flipped : List ℕ → List ℕ → ℕ → Type 0
+Flipped s t p = chipAt t p ≡ chipAt s p → ⊥
+
+pub record ChipBurst (w from end : ℕ) (s t : List ℕ) : Type 0 where
+  pub place : ℕ
+  pub differs : Flipped s t place
+  pub first : ℕ
+  pub within : (p : ℕ) → Flipped s t p → (first ≤ p) × (p < first + w)
+  pub inside : (p : ℕ) → Flipped s t p → (from ≤ p) × (p < end)
+
+abbrev pub NeverSent : Kind → ℕ → ℕ → Type 0
+NeverSent k w skip =
+    (s t : List ℕ) (place : ℕ) (c : List ℕ) → SentAt k s place c
+    → ChipBurst w (place + leadOf k + skip) (place + sentChips k (length c)) s t
+    → (e : List ℕ) → SentAt k t place e → ⊥
+
+abbrev pub wordChips : LineCode → ℕ → List ℕ
+wordChips κ y = tabulate (λ i. y / 2 ^ (κ .chips - 1 - i) % 2) (κ .chips)
+
+abbrev pub EvenlyApart : LineCode → Type 0
+EvenlyApart κ =
+    (x y : ℕ) → x < 2 ^ κ .bits → y < 2 ^ κ .bits
+    → apart (wordChips κ (κ .wordOf x)) (wordChips κ (κ .wordOf y)) % 2 ≡ 0
+
+pub record ChipsSeen : Type 0 where
+  pub mode-t : NeverSent TWithA 21 0
+  pub mode-c-format-a : NeverSent CWithA 16 0
+  pub mode-c-format-b : NeverSent CWithB 16 8
+  pub manchester : NeverSent ManchesterWithA 33 0
+  pub three-of-six-words : EvenlyApart (codeOf ThreeOfSix)
+  pub manchester-words : EvenlyApart (codeOf Manchester)

@@ -1,0 +1,4 @@
+pub mod Damage
+pub mod Seen
+pub mod Frames
+pub mod Promise

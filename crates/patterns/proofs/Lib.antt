@@ -1,0 +1,6 @@
+pub mod Patterns
+pub mod RegisterLaws
+pub mod ZerosLaws
+pub mod WindowLaws
+pub mod OddLaws
+pub mod FewLaws
