@@ -6,7 +6,8 @@
  *   2. in format B the same, with the length byte as it was;
  *   3. in format A, at most five bits, wherever they are;
  *   4. at most five bits within 151 consecutive ones, with the length byte as it was;
- *   5. an odd number of bits, with the length byte as it was.
+ *   5. an odd number of bits, with the length byte as it was;
+ *   6. in some block within 16 consecutive bits, and in the others anything, with the length byte as it was.
  * The number is 1, 2 or 3, and it is 3 where the length byte is as it was. Lent memory stays, however much it is.
  *
  * The frames, their blocks and their checks are made here from the rules, without the library. So is a second reader,
@@ -473,9 +474,24 @@ static int is_close_or_few(enum format format, const struct damage *damage) {
     return damage->count <= 5 && within <= 151 && length_stays;
 }
 
-/* All five. */
-static int is_promised(enum format format, const struct damage *damage) {
-    return is_close_or_few(format, damage) || (damage->count % 2 == 1 && damage->first >= 8);
+/* Promise 6: whether the bits of some block lie within 16. */
+static int has_burst_in_a_block(const struct layout *layout, const struct damage *damage) {
+    for (unsigned block = 0; block < layout->blocks; block++) {
+        unsigned count = 0, first = 0, last = 0;
+        for (unsigned bit = 8 * start_of(layout, block); bit < 8 * layout->ends[block]; bit++) {
+            if (!is_set(damage->mask, bit)) continue;
+            if (count++ == 0) first = bit;
+            last = bit;
+        }
+        if (count > 0 && last - first < 16) return damage->first >= 8;
+    }
+    return 0;
+}
+
+/* All six. */
+static int is_promised(enum format format, const struct layout *layout, const struct damage *damage) {
+    return is_close_or_few(format, damage) || (damage->count % 2 == 1 && damage->first >= 8) ||
+           has_burst_in_a_block(layout, damage);
 }
 
 /* A bit of the frame, not before bit `from`. Most are near an edge: the first 24 bits, where a check begins or a block
@@ -547,15 +563,27 @@ static void odd_bits(const struct layout *layout, uint8_t *mask) {
     }
 }
 
+/* Promise 6: a burst in one block; in all others noise, or damage that nobody sees. */
+static void burst_in_one_block(const struct layout *layout, uint8_t *mask) {
+    unsigned block = below(layout->blocks), start = start_of(layout, block), end = layout->ends[block];
+    if (below(2)) fill(mask + 1, layout->size - 1);
+    else unseen_in_every_block(layout, mask);
+    memset(mask + start, 0, end - start);
+    unsigned from = block ? 8 * start : 8, place = from + below(8 * end - from), left = 8 * end - place;
+    unsigned width = left < 16 ? left : 16, highest = 1u << (width - 1);
+    invert(mask, place, highest | below(highest), width);
+}
+
 static struct damage some_damage(enum format format, const struct layout *layout) {
     struct damage damage = {{0}, 0, 0, 0};
-    unsigned draw = below(8);
+    unsigned draw = below(9);
     if (draw < 4) some_burst(layout, damage.mask, first_bit(format));
     else if (draw < 5 && format == A) few_bits_anywhere(layout, damage.mask);
     else if (draw < 6) few_bits_together(layout, damage.mask);
-    else odd_bits(layout, damage.mask);
+    else if (draw < 8) odd_bits(layout, damage.mask);
+    else burst_in_one_block(layout, damage.mask);
     count_bits(&damage, 8 * layout->size);
-    if (!is_promised(format, &damage)) fail("the test made damage that no promise covers");
+    if (!is_promised(format, layout, &damage)) fail("the test made damage that no promise covers");
     return damage;
 }
 
@@ -699,7 +727,7 @@ static void must_be_beyond(const struct frame *sent, const uint8_t *got, unsigne
     struct damage damage = {{0}, 0, 0, 0};
     for (unsigned i = 0; i < sent->layout->size; i++) damage.mask[i] = sent->bytes[i] ^ got[i];
     count_bits(&damage, bits_of(sent));
-    if (is_promised(sent->format, &damage)) fail_at(verdict_names[UNSEEN], sent, got, len, LENT);
+    if (is_promised(sent->format, sent->layout, &damage)) fail_at(verdict_names[UNSEEN], sent, got, len, LENT);
     memcpy(due, lent_before, sizeof due);
     if (own_read(OWN, sent->format, got, len, due + GUARD, LENT, own_results) != 0 ||
         memcmp(results, own_results, sizeof own_results) || memcmp(lent, due, sizeof due))

@@ -4,7 +4,6 @@
 --     Narrows κ w      bits that differ between two frames in code κ lie within 16 consecutive bits, where all inverted
 --                      chips lie within w consecutive ones
 --     narrows-..       for each code
---     chips-seen       the promise of specs/ChipDamage
 -- Assumes nothing.
 use mathlib.Core.List.{List, [], _∷_}
 use mathlib.Core.Path.{_≡_, refl, sym, ap, _∙_}

@@ -2,7 +2,8 @@
 -- that was sent would be two frames that differ within sixteen bits.
 --     overlaid          the second frame, and behind it what the first has there
 --     overlaid-window   it differs from the first within as many bits
---     one-frame         so the two are one, and no-chip of it is inverted
+--     one-frame         so the two are one
+--     no-chip           and no chip of it is inverted
 --     chips-seen        the promise
 --     not-received      and so no call receives such a frame there
 -- Assumes nothing.

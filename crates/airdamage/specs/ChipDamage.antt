@@ -6,11 +6,12 @@
 --                              and the next `skip` ones: no content at all, sent as kind k, has its chips there
 --     wordChips κ y            the chips of the word y, first chip first
 --     EvenlyApart κ            two code words differ in an even number of chips: so a code word with an odd number of
---                              inverted chips is none, and is refused with 6 already
+--                              inverted chips is none
 --     ChipsSeen                this of three-of-six and Manchester; and for how many consecutive chips no frame of the
 --                              kind can stand there, kind by kind. Of mode C with format B the chips of the length
 --                              byte are not among the inverted
--- SentAt is what demand 2 measures receiving by: so nothing is received there as kind k.
+-- SentAt is what demand 2 measures receiving by: so nothing is received there as kind k. What stands around the frame
+-- is t's own: s may have anything there.
 use mathlib.Core.List.{List}
 use mathlib.Core.Path.{_≡_}
 use Prim.Native.Nat.{ℕ, _+_, _-_, _/_, _%_, _≤_, _<_, _^_}

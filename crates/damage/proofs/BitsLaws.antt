@@ -5,11 +5,12 @@
 --     pattern-append                bytes behind bytes
 --     pattern-inverted              the pattern is not 0 just where a bit came inverted
 --     pattern-ones                  so it has as many ones as bits came inverted
+--     pattern-self                  bytes that came as they were sent have a pattern of zeros
 --     damaged-pattern               damage has a pattern that is not zeros
 -- Assumes nothing.
 use mathlib.Core.Bool.{cond}
 use mathlib.Core.List.{List, [], _∷_, _++_, map, append-assoc}
-use mathlib.Core.Path.{_≡_, refl, sym, ap₂, _∙_}
+use mathlib.Core.Path.{_≡_, refl, sym, ap, ap₂, _∙_}
 use Prim.Native.Nat.{ℕ, zero, suc, _+_, _*_, _/_, _%_, _^_, _<_}
 use native.Mathlib.Omega.{arith}
 use lib.Bits.{bitXor, xor-lt, xor-self}
@@ -57,6 +58,11 @@ bits-digits (b ∷ s) = digits-append (byteBits b) (bitsOf s) (digits-map b plac
 pub pattern-nil : pattern [] [] ≡ []
 unfolding bitsOf xors
 pattern-nil = refl
+
+pub pattern-self : (u v : List ℕ) → u ≡ v → Zeros (pattern u v)
+pattern-self u v e p =
+    ap (λ (x : List ℕ). getD (pattern u x) p 0) (sym e) ∙ getD-xors (bitsOf u) (bitsOf u) p refl
+    ∙ xor-self (getD (bitsOf u) p 0)
 
 -- two digits
 xor-apart : (x y : ℕ) → x < 2 → y < 2 → bitXor x y ≡ cond (eqb x y) 0 1

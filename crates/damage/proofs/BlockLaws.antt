@@ -3,10 +3,10 @@
 --     left-bytes      the register of the check after bytes is sixteen steps behind what their digits leave
 --     block-left      all right blocks leave the same
 --     unseen-left     so the pattern between two right blocks leaves 0
---     zeros-first     bytes between which no bit differs begin alike
+--     zeros-same      bytes between which no bit differs are the same; zeros-first: and begin alike
 -- Assumes nothing.
 use mathlib.Core.Bool.{Bool, true}
-use mathlib.Core.List.{List, [], _∷_}
+use mathlib.Core.List.{List, [], _∷_, _++_}
 use mathlib.Core.Path.{_≡_, refl, sym, ap, ap₂, _∙_, subst}
 use Prim.Native.Nat.{ℕ, suc, _+_, _≤_, _<_}
 use native.Mathlib.Omega.{arith}
@@ -18,7 +18,7 @@ use Rattle.ground.specs.Bytes.{Bytes}
 use Rattle.ground.specs.Sums.{xors}
 use Rattle.ground.proofs.ByteLaws.{bytes-take}
 use Rattle.ground.proofs.TableLaws.{allBelow-at}
-use Rattle.ground.proofs.SumLaws.{xors-append}
+use Rattle.ground.proofs.SumLaws.{cons, xors-append}
 use Rattle.ground.proofs.XorLaws.{xor-cancel, xor-equal}
 use Rattle.crc.specs.Check.{bitIn, bitsIn, regOf, checkOf}
 use Rattle.crc.proofs.CheckLaws.{bitsIn-xor, regOf-append, regOf-added}
@@ -29,7 +29,7 @@ use Rattle.blocks.specs.Spans.{sealed, blockOk}
 use Rattle.blocks.proofs.SealLaws.{sealed-take}
 use Rattle.patterns.proofs.Patterns.{left, Zeros}
 use Rattle.patterns.proofs.RegisterLaws.{left-append, left-xor, left-added, left-lt, bitsIn-same}
-use Rattle.patterns.proofs.ZerosLaws.{zeros-front, left-zeros}
+use Rattle.patterns.proofs.ZerosLaws.{zeros-front, zeros-back, left-zeros}
 use Rattle.damage.specs.Damage.{bitsOf}
 use Rattle.damage.proofs.BitsLaws.{byteBits, pattern, length-bitsOf, bits-digits}
 
@@ -110,13 +110,18 @@ zeros-byte b c hb hc z =
     ∙ sym (left-xor 0 0 (byteBits b) (byteBits c) refl)
     ∙ left-zeros (xors (byteBits b) (byteBits c)) z)
 
+pub zeros-same : (s t : List ℕ) → Bytes s → Bytes t → length t ≡ length s → Zeros (pattern s t) → s ≡ t
+unfolding bitsOf
+zeros-same [] [] bs bt count z = refl
+zeros-same [] (c ∷ t) bs bt count z = absurd (omega arith)
+zeros-same (b ∷ s) [] bs bt count z = absurd (omega arith)
+zeros-same (b ∷ s) (c ∷ t) bs bt count z =
+    let first = xors (byteBits b) (byteBits c) in
+    let cut = xors-append (byteBits b) (bitsOf s) (byteBits c) (bitsOf t) refl in
+    let all : Zeros (first ++ pattern s t) = subst Zeros cut z in
+    cons (zeros-byte b c (bs 0) (bt 0) (zeros-front first (pattern s t) all))
+    (zeros-same s t (λ j. bs (suc j)) (λ j. bt (suc j)) (omega arith) (zeros-back first (pattern s t) all))
+
 pub zeros-first :
     (s t : List ℕ) → Bytes s → Bytes t → length t ≡ length s → Zeros (pattern s t) → getD t 0 0 ≡ getD s 0 0
-unfolding bitsOf
-zeros-first [] [] bs bt count z = refl
-zeros-first [] (c ∷ t) bs bt count z = absurd (omega arith)
-zeros-first (b ∷ s) [] bs bt count z = absurd (omega arith)
-zeros-first (b ∷ s) (c ∷ t) bs bt count z =
-    sym (zeros-byte b c (bs 0) (bt 0)
-    (zeros-front (xors (byteBits b) (byteBits c)) (xors (bitsOf s) (bitsOf t))
-    (subst Zeros (xors-append (byteBits b) (bitsOf s) (byteBits c) (bitsOf t) refl) z)))
+zeros-first s t bs bt count z = ap (λ (x : List ℕ). getD x 0 0) (sym (zeros-same s t bs bt count z))

@@ -3,6 +3,8 @@
 --     five-seen      up to five in format A; near-seen: in both formats, near each other, behind the length byte
 --     odd-seen       odd numbers, behind the length byte
 --     few-bits       the promise: for these numbers, and for no others
+--     one-block      one block with such damage is enough, or with a burst
+--     block-named    and the first block that differs is named
 -- Assumes nothing.
 use mathlib.Core.List.{List, [], _∷_, _++_}
 use mathlib.Core.Logic.{_↔_}
@@ -23,11 +25,13 @@ use Rattle.patterns.proofs.FewLaws.{few-zeros, ones-none}
 use Rattle.damage.specs.Damage.{bitsOf, Burst, inverted, Few, Odd, Behind}
 use Rattle.damage.specs.Seen.{AlwaysSeen}
 use Rattle.damage.specs.Frames as it
-use Rattle.damage.specs.Promise.{fewAnywhere, FewBitsSeen}
+use Rattle.damage.specs.Promise.{fewAnywhere, FewBitsSeen, OneBlockSeen, BlockNamed}
 use Rattle.damage.proofs.BitsLaws.{pattern, pattern-ones, damaged-pattern}
 use Rattle.damage.proofs.WalkLaws.{Telling, telling-zeros}
+use Rattle.damage.proofs.InBlockLaws.{block-seen}
+use Rattle.damage.proofs.NamedLaws.{always-named}
 use Rattle.damage.proofs.SeenLaws.{always-seen, narrow, kept-a, kept-length}
-use Rattle.damage.proofs.BurstLaws.{burst-window, exactly}
+use Rattle.damage.proofs.BurstLaws.{burst-window, windows-tell, exactly}
 use Rattle.damage.proofs.Unseen.{limits, unseen-wider, burst-wider}
 
 ones-append : (u v : List ℕ) → ones (u ++ v) ≡ ones u + ones v
@@ -55,12 +59,13 @@ blocks-tell =
 narrow-a : (n : ℕ) → 8 * (widest (spansOf A n) + 2) ≤ 144
 narrow-a n = omega (arith, widest-spans 16 10 16 (n + 1) (omega arith) (omega arith))
 
+few-pattern : {m : ℕ} → m ≤ 5 → (old new : List ℕ) → Few m old new → UpToFive (pattern old new)
+few-pattern five old new b = omega (arith, b .1, pattern-ones old new (b .0 .count))
+
 five-seen : {m : ℕ} → m ≤ 5 → AlwaysSeen A (Few m)
 five-seen {m} five =
-    let few : (old new : List ℕ) → Few m old new → UpToFive (pattern old new) =
-    λ old new b. omega (arith, b .1, pattern-ones old new (b .0 .count)) in
-    always-seen A blocks-tell narrow-a (Few m) (λ old new b. b .0 .count) few (λ old new b. damaged-pattern (b .0))
-    (kept-a blocks-tell (omega arith) (Few m) few)
+    always-seen A blocks-tell narrow-a (Few m) (λ old new b. b .0 .count) (few-pattern five)
+    (λ old new b. damaged-pattern (b .0)) (kept-a blocks-tell (omega arith) (Few m) (few-pattern five))
 
 -- damage has an inverted bit
 few-none : (f : Format) {m : ℕ} → m ≤ 0 → AlwaysSeen f (Few m)
@@ -77,12 +82,16 @@ near-tell limit =
 abbrev Near : ℕ → List ℕ → List ℕ → Type 0
 Near m old new = Burst 151 old new × Few m old new
 
+near-pattern :
+    {m : ℕ} → m ≤ 5 → (old new : List ℕ) → Near m old new
+    → InWindow 151 (pattern old new) × UpToFive (pattern old new)
+near-pattern five old new b =
+    (burst-window (b .0), omega (arith, b .1 .1, pattern-ones old new (b .0 .damaged .count)))
+
 near-seen : (f : Format) {m : ℕ} → m ≤ 5 → AlwaysSeen f (Behind (Near m))
 near-seen f {m} five =
     always-seen f (near-tell 1024) (narrow f) (Behind (Near m)) (λ old new b. b .0 .0 .damaged .count)
-    (λ old new b.
-    (burst-window (b .0 .0), omega (arith, b .0 .1 .1, pattern-ones old new (b .0 .0 .damaged .count))))
-    (λ old new b. damaged-pattern (b .0 .0 .damaged))
+    (λ old new b. near-pattern five old new (b .0)) (λ old new b. damaged-pattern (b .0 .0 .damaged))
     (kept-length f (Behind (Near m)) (λ old new b. b .1))
 
 -- ---- odd numbers
@@ -104,10 +113,13 @@ odd-tell limit =
       block = λ u short d q. even-ones u d;
     }
 
+odd-pattern : (old new : List ℕ) → Odd old new → Even (pattern old new) → ⊥
+odd-pattern old new b even = omega (arith, b .1, pattern-ones old new (b .0 .count))
+
 odd-seen : (f : Format) → AlwaysSeen f (Behind Odd)
 odd-seen f =
     always-seen f (odd-tell 1024) (narrow f) (Behind Odd) (λ old new b. b .0 .0 .count) (λ old new b. refl)
-    (λ old new b even. omega (arith, b .0 .1, pattern-ones old new (b .0 .0 .count)))
+    (λ old new b. odd-pattern old new (b .0))
     (kept-length f (Behind Odd) (λ old new b. b .1))
 
 -- ---- exactly
@@ -146,4 +158,26 @@ few-bits =
       anywhere = few-anywhere;
       behind-the-length = λ f m. exactly 5 m (omega arith) (not-six f m) (near-seen f);
       odd = odd-seen;
+    }
+
+-- ---- one block is enough
+
+pub one-block : OneBlockSeen
+one-block =
+    record {
+      bursts = λ f. block-seen (windows-tell _ 1024 (omega arith)) (Burst _) (λ old new b. burst-window b)
+          (λ old new b. damaged-pattern (b .damaged)) f (narrow f);
+      few-bits = λ f. block-seen (near-tell 1024) (Near 5) (near-pattern (omega arith))
+          (λ old new b. damaged-pattern (b .0 .damaged)) f (narrow f);
+      odd = λ f. block-seen (odd-tell 1024) Odd (λ old new b. refl) odd-pattern f (narrow f);
+    }
+
+pub block-named : BlockNamed
+block-named =
+    record {
+      bursts = λ f. always-named f (windows-tell 16 1024 (omega arith)) (narrow f) (Burst 16)
+          (λ old new b. burst-window b) (λ old new b. b .damaged);
+      few-bits = λ f. always-named f (near-tell 1024) (narrow f) (Near 5) (near-pattern (omega arith))
+          (λ old new b. b .0 .damaged);
+      few-in-format-a = always-named A blocks-tell narrow-a (Few 5) (few-pattern (omega arith)) (λ old new b. b .0);
     }

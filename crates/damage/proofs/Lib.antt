@@ -3,6 +3,8 @@ pub mod BlockLaws
 pub mod WalkLaws
 pub mod RefusesLaws
 pub mod SeenLaws
+pub mod InBlockLaws
+pub mod NamedLaws
 pub mod Unseen
 pub mod BurstLaws
 pub mod FewBitsLaws

@@ -1,6 +1,8 @@
 -- From patterns to frames: damage whose pattern a right frame cannot have is always seen (specs/Seen).
 --     Kept f kind       two frames of format f between whose bytes there is damage of this kind have one length byte
---     always-seen       where the length byte is kept, the walk over the blocks tells
+--     Never f kind      two frames of one length byte have no damage of this kind between them
+--     always-never      then it is always seen, where the length byte is kept
+--     always-seen       and the walk over the blocks shows it
 --     narrow            how long a block can be
 --     kept-length       the length byte is kept where the kind of damage says so
 --     kept-a            in format A it is kept by block 1 itself, which has twelve bytes for every length
@@ -64,33 +66,42 @@ Kept f kind =
     (s t : List ℕ) (z y : ℕ) (c e : List ℕ) → FrameAt f s z c → FrameAt f t y e → Bytes s → Bytes t
     → z ≤ length t → kind (take z s) (take z t) → LengthStays s t
 
+-- two frames of one length byte have no such damage between them
+abbrev pub Never : Format → (List ℕ → List ℕ → Type 0) → Type 0
+Never f kind =
+    (s t : List ℕ) (z y : ℕ) (c e : List ℕ) → FrameAt f s z c → FrameAt f t y e → Bytes s → Bytes t
+    → LengthStays s t → kind (take z s) (take z t) → ⊥
+
+module _
+    (f : Format) (kind : List ℕ → List ℕ → Type 0)
+    (count : (old new : List ℕ) → kind old new → length new ≡ length old) (kept : Kept f kind) (never : Never f kind)
+  where
+    pub always-never : AlwaysSeen f kind
+    always-never s d z n bs accepted new rest bt damage =
+        let at = read-accepted f s d accepted .frame in
+        let t = new ++ rest in
+        let size : length new ≡ z = count (take z s) new damage ∙ length-take-le z s (whole at .fits) in
+        let there : z ≤ length t = omega (arith, length-append new rest) in
+        let came : take z t ≡ new = take-at new rest z size in
+        let harm : kind (take z s) (take z t) = subst (kind (take z s)) (sym came) damage in
+        let first : getD (take z s) 0 0 ≡ getD s 0 0 = getD-take z s 0 0 (frame-some at) in
+        refuses f t
+        (λ y e frame. never s t z y _ e at frame bs bt (kept s t z y _ e at frame bs bt there harm) harm) (take z s)
+        (ap (sizeFor f) first ∙ sizeFor-frame at) (frame-some at) there
+
+-- by the walk over all blocks
 module _
     (f : Format) {limit : ℕ} {Q P : List ℕ → Type 0} (tells : Telling limit Q P)
-    (narrow : (n : ℕ) → 8 * (widest (spansOf f n) + 2) ≤ limit)
-    (kind : List ℕ → List ℕ → Type 0)
+    (narrow : (n : ℕ) → 8 * (widest (spansOf f n) + 2) ≤ limit) (kind : List ℕ → List ℕ → Type 0)
     (count : (old new : List ℕ) → kind old new → length new ≡ length old)
     (has : (old new : List ℕ) → kind old new → Q (pattern old new))
-    (lacks : (old new : List ℕ) → kind old new → P (pattern old new) → ⊥)
-    (kept : Kept f kind) where
-  no-frame :
-      (s t : List ℕ) (z : ℕ) (c : List ℕ) → FrameAt f s z c → Bytes s → Bytes t → z ≤ length t
-      → kind (take z s) (take z t) → (y : ℕ) (e : List ℕ) → FrameAt f t y e → ⊥
-  no-frame s t z c at bs bt there harm y e frame =
-      lacks (take z s) (take z t) harm
-      (same-spans at frame bs bt tells (narrow _) (kept s t z y c e at frame bs bt there harm)
-      (has (take z s) (take z t) harm))
-
+    (lacks : (old new : List ℕ) → kind old new → P (pattern old new) → ⊥) (kept : Kept f kind) where
   pub always-seen : AlwaysSeen f kind
-  always-seen s d z n bs accepted new rest bt damage =
-      let at = read-accepted f s d accepted .frame in
-      let t = new ++ rest in
-      let size : length new ≡ z = count (take z s) new damage ∙ length-take-le z s (whole at .fits) in
-      let there : z ≤ length t = omega (arith, length-append new rest) in
-      let came : take z t ≡ new = take-at new rest z size in
-      let harm : kind (take z s) (take z t) = subst (kind (take z s)) (sym came) damage in
-      let first : getD (take z s) 0 0 ≡ getD s 0 0 = getD-take z s 0 0 (frame-some at) in
-      refuses f t (no-frame s t z _ at bs bt there harm) (take z s) (ap (sizeFor f) first ∙ sizeFor-frame at)
-      (frame-some at) there
+  always-seen =
+      always-never f kind count kept
+      (λ s t z y c e at frame bs bt stays harm.
+      lacks (take z s) (take z t) harm
+      (same-spans at frame bs bt tells (narrow _) stays (has (take z s) (take z t) harm)))
 
 -- no block has over 128 bytes, its check included
 pub narrow : (f : Format) (n : ℕ) → 8 * (widest (spansOf f n) + 2) ≤ 1024

@@ -7,14 +7,23 @@
 --     Burst w old new      they are damaged, and all inverted bits lie within w consecutive bits
 --     inverted old new     how many bits came inverted
 --     Few m old new        they are damaged, with at most m inverted bits
---     Odd old new          they are damaged, with an odd number of them
+--     Odd old new          they are damaged, with an odd number of inverted bits
 --     LengthStays old new  the length byte came as it was sent
 --     Behind kind          damage of this kind, the length byte not among the changed
+--     InSome kind ks       there is a block whose bytes have damage of this kind, where the frame has the spans ks; the
+--                          others may have any
+--     InBlock f kind       so it is in a frame of format f, whose length byte says which spans it has
+--     firstDamaged b ks old new    the first block that has a byte that differs, the first one counted as b
+use mathlib.Core.Bool.{cond}
 use mathlib.Core.List.{List, [], _∷_, _++_, map}
+use mathlib.Core.Logic.{_⊎_}
 use mathlib.Core.Path.{_≡_}
 use Prim.Native.Nat.{ℕ, _+_, _/_, _%_, _^_, _≤_, _<_}
-use lib.ListN.{length, getD}
+use lib.Dec.{eqb}
+use lib.ListN.{length, getD, take, drop}
 use Rattle.ground.specs.Apart.{apart}
+use Rattle.frame.specs.declared.Format.{Format}
+use Rattle.frame.specs.Formats.{formOf, spansOf}
 
 abbrev pub places : List ℕ
 places = 7 ∷ 6 ∷ 5 ∷ 4 ∷ 3 ∷ 2 ∷ 1 ∷ 0 ∷ []
@@ -50,3 +59,19 @@ LengthStays old new = getD new 0 0 ≡ getD old 0 0
 
 abbrev pub Behind : (List ℕ → List ℕ → Type 0) → List ℕ → List ℕ → Type 0
 Behind kind old new = kind old new × LengthStays old new
+
+abbrev pub InSome : (List ℕ → List ℕ → Type 0) → List ℕ → List ℕ → List ℕ → Type 0
+InSome kind [] old new = ⊥
+InSome kind (k ∷ ks) old new =
+    kind (take (k + 2) old) (take (k + 2) new) ⊎ InSome kind ks (drop (k + 2) old) (drop (k + 2) new)
+
+pub record InBlock (f : Format) (kind : List ℕ → List ℕ → Type 0) (old new : List ℕ) : Type 0 where
+  pub count : length new ≡ length old
+  pub block : InSome kind (spansOf f (formOf f .contentLength (getD old 0 0))) old new
+
+unfoldable pub firstDamaged : ℕ → List ℕ → List ℕ → List ℕ → ℕ
+firstDamaged b [] old new = b
+firstDamaged b (k ∷ ks) old new =
+    cond (eqb (apart (take (k + 2) old) (take (k + 2) new)) 0)
+    (firstDamaged (b + 1) ks (drop (k + 2) old) (drop (k + 2) new))
+    b

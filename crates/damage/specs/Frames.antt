@@ -8,7 +8,8 @@
 --     twoBits                   sentB with the bits 15 and 166 inverted
 --     sentLong, oneBit          format B, bit 6 inverted: the length byte 0E came as 0C, and the last two bytes of the
 --                               content are the check of the shorter frame
---     sentOdd, sevenBits        format A, seven bits inverted, two of them in the length byte: again the shorter frame
+--     sentOdd, sevenBits        format A, seven bits inverted: six in block 1, the length byte among them, which its
+--                               check does not see; one behind the shorter frame that the length byte says now
 use mathlib.Core.List.{List, [], _∷_}
 use Prim.Native.Nat.{ℕ}
 

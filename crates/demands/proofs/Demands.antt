@@ -46,7 +46,7 @@ use Rattle.proposals.proofs.WrittenLaws.{taken-once, taken-judged}
 use Rattle.proposals.proofs.TwoLengths.{heard, short, long, all-are-bytes, long-is, short-is}
 use Rattle.proposals.proofs.SixteenLaws.{nearest-first, nearest-else, mends}
 use Rattle.damage.proofs.BurstLaws.{bursts}
-use Rattle.damage.proofs.FewBitsLaws.{few-bits}
+use Rattle.damage.proofs.FewBitsLaws.{few-bits, one-block, block-named}
 use Rattle.damage.proofs.Unseen.{limits, unseen-not-always}
 use Rattle.airdamage.proofs.SeenLaws.{chips-seen, not-received}
 use Rattle.proposals.proofs.Seventeen.{heard17, sent, other, all-bytes17, sent-is, other-is}
@@ -365,6 +365,8 @@ damage-promise =
     record {
       bursts = bursts;
       few-bits = few-bits;
+      one-block = one-block;
+      block-named = block-named;
       limits = limits;
       no-more = unseen-not-always;
       in-chips = chips-seen;

@@ -52,7 +52,7 @@ use Rattle.frame.specs.Reads.{readingOf, Handed}
 use Rattle.frame.specs.Writes.{writingOf}
 use Rattle.frame.specs.Changes.{changingOf, Edit, changing, answersOf, edited, lastAt, placeOf, checkPlaceOf}
 use Rattle.damage.specs.Seen.{AlwaysSeen, Unseen}
-use Rattle.damage.specs.Promise.{BurstsSeen, FewBitsSeen, Limits}
+use Rattle.damage.specs.Promise.{BurstsSeen, FewBitsSeen, OneBlockSeen, BlockNamed, Limits}
 use Rattle.radio.specs.declared.Reception.{Reception}
 use Rattle.radio.specs.KindParts.{formatOf}
 use Rattle.radio.specs.Receiving.{receptionOf, manchesterOf}
@@ -673,12 +673,16 @@ pub record SixteenPromise : Type 0 where
 -- included; in format B where the length byte is not among the changed. Refused means: with 1, 2 or 3, whatever memory
 -- is lent, and the memory stays; no content at all has its frame there; and where the length byte is not among the
 -- changed the number is 3. `bursts` says so of exactly these widths, `few-bits` the same of numbers of inverted bits.
--- `limits` has the frames that show why no more is promised; by `no-more` what can go unseen is not always seen.
--- In chips (airdamage/specs): within how many consecutive inverted chips no frame of the same kind can stand where one
--- was sent; so none is received there, by whatever call (`not-received`).
+-- Behind the length byte one block with such damage is enough, whatever the other blocks have (`one-block`). Of a burst
+-- and of few bits there, 3 names the first block that has a wrong byte (`block-named`). `limits` has the frames that
+-- show why the numbers are not larger; by `no-more` what can go unseen is not always seen.
+-- In chips (airdamage/specs): where all inverted chips lie within so many consecutive ones, no frame of the same kind
+-- can stand where one was sent; so none is received there, by whatever call (`not-received`).
 pub record DamagePromise : Type 1 where
   pub bursts : BurstsSeen
   pub few-bits : FewBitsSeen
+  pub one-block : OneBlockSeen
+  pub block-named : BlockNamed
   pub limits : Limits
   pub no-more :
       (f : Format) (kind : List ℕ → List ℕ → Type 0) (old new : List ℕ) → Unseen f kind old new → AlwaysSeen f kind → ⊥

@@ -1,14 +1,15 @@
 -- Patterns of zeros.
 --     not-one                      a digit that is not other than 0
---     zeros-cons, zeros-front, zeros-append    one digit more, parts, and two of them
+--     zeros-cons, zeros-front, zeros-back, zeros-append    one digit more, parts, and two of them
 --     left-zeros                   zeros leave 0 of 0
 --     inside                       what is not 0 stands in the list
 -- Assumes nothing.
 use mathlib.Core.List.{List, [], _∷_, _++_}
-use mathlib.Core.Path.{_≡_, refl, ap, _∙_}
-use Prim.Native.Nat.{ℕ, zero, suc, _<_}
+use mathlib.Core.Path.{_≡_, refl, sym, ap, _∙_}
+use Prim.Native.Nat.{ℕ, zero, suc, _+_, _<_}
 use native.Mathlib.Omega.{arith}
 use lib.ListN.{length, getD}
+use lib.Seq.{getD-append-add}
 use Rattle.crc.specs.Check.{bitIn}
 use Rattle.patterns.proofs.Patterns.{left, Zeros}
 
@@ -24,6 +25,9 @@ pub zeros-front : (u v : List ℕ) → Zeros (u ++ v) → Zeros u
 zeros-front [] v z p = refl
 zeros-front (t ∷ u) v z zero = z 0
 zeros-front (t ∷ u) v z (suc p) = zeros-front u v (λ q. z (suc q)) p
+
+pub zeros-back : (u v : List ℕ) → Zeros (u ++ v) → Zeros v
+zeros-back u v z p = sym (getD-append-add u v p 0) ∙ z (length u + p)
 
 pub zeros-append : (u v : List ℕ) → Zeros u → Zeros v → Zeros (u ++ v)
 zeros-append [] v y z p = z p
