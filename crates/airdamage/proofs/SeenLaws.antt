@@ -1,38 +1,42 @@
 -- Inverted chips of a frame in chips are always seen (specs/ChipDamage): the frame that would stand there and the one
 -- that was sent would be two frames that differ within sixteen bits.
 --     overlaid          the second frame, and behind it what the first has there
---     overlaid-window   it differs from the first within as many bits
+--     overlaid-near     it differs from the first within 16 bits, or 17 of which two differ together
 --     one-frame         so the two are one
 --     no-chip           and no chip of it is inverted
---     chips-seen        the promise
+--     never-t .. never-b    what is always so of each kind
 --     not-received      and so no call receives such a frame there
 -- Assumes nothing.
 use mathlib.Core.List.{List, _++_}
-use mathlib.Core.Path.{_≡_, refl, sym, ap, _∙_, subst}
-use Prim.Native.Nat.{ℕ, _+_, _*_, _-_, _/_, _%_, _≤_, _<_, _^_}
+use mathlib.Core.Logic.{inl, inr, ⊎-elim}
+use mathlib.Core.Path.{_≡_, refl, sym, ap, ap₂, _∙_, subst}
+use Prim.Native.Nat.{ℕ, suc, _+_, _*_, _-_, _/_, _%_, _≤_, _<_, _^_}
 use native.Mathlib.Omega.{arith}
 use borrow.Author.Tests.{ltb-true, ltb-false}
+use lib.Bits.{bitXor, xor-self}
 use lib.Dec.{ltb}
-use lib.ListN.{length, take, drop, getD, length-append, length-drop, List·getD-append}
+use lib.ListN.{length, take, drop, getD, length-append, length-drop, List·getD-append, List·getD-eq-default}
 use lib.Seq.{take-at, take-all, getD-take, getD-drop, getD-append-add, ext-getD, length-take-le}
 use Rattle.ground.specs.Bytes.{Bytes}
 use Rattle.ground.proofs.CaseLaws.{by-test}
+use Rattle.ground.proofs.XorLaws.{xor-equal}
 use Rattle.ground.proofs.ByteLaws.{bytes-append, bytes-drop}
 use Rattle.chips.specs.Chips.{chipAt}
 use Rattle.chips.proofs.PackingLaws.{gather-same}
 use Rattle.chips.proofs.WindowLaws.{wordAt-byte}
 use Rattle.line.specs.Codes.{chipsIn}
 use Rattle.line.specs.Encoding.{encodedChip}
-use Rattle.patterns.proofs.Patterns.{Zeros, InWindow}
+use Rattle.patterns.proofs.Patterns.{Zeros}
+use Rattle.patterns.proofs.TwinLaws.{NearTwin, twin-front, twin-back, near-zeros}
 use Rattle.patterns.proofs.ZerosLaws.{inside}
 use Rattle.frame.specs.declared.Format.{Format}
 use Rattle.frame.specs.Frames.{frameOf, FrameAt}
 use Rattle.frame.proofs.AcceptLaws.{frame-some}
 use Rattle.frame.proofs.FrameLaws.{length-frameOf, frameOf-bytes}
 use Rattle.damage.specs.Damage.{bitsOf, LengthStays}
-use Rattle.damage.proofs.BitsLaws.{pattern, length-pattern, pattern-inverted, inverted-pattern}
+use Rattle.damage.proofs.BitsLaws.{pattern, length-pattern, pattern-at, pattern-inverted}
 use Rattle.damage.proofs.SeenLaws.{same-size, same-spans, narrow, kept-a}
-use Rattle.damage.proofs.BurstLaws.{windows-tell}
+use Rattle.damage.proofs.WalkLaws.{Telling, telling-zeros}
 use Rattle.sync.specs.declared.Kind.{Kind}
 use Rattle.sync.specs.declared.Kind.the-variants.{TWithA, CWithA, CWithB, ManchesterWithA}
 use Rattle.sync.specs.Kinds.{leadOf}
@@ -42,9 +46,10 @@ use Rattle.radio.specs.declared.Reception.{Reception}
 use Rattle.radio.specs.Heard.{receivingOf}
 use Rattle.radio.proofs.AirLaws.{coded-sent}
 use Rattle.radio.proofs.HeardLaws.{heard-exactly}
-use Rattle.airdamage.specs.ChipDamage.{Flipped, ChipBurst, NeverSent, ChipsSeen}
-use Rattle.airdamage.proofs.WordLaws.{unflipped, three-of-six-even, manchester-even}
-use Rattle.airdamage.proofs.ChipLaws.{bits-chips, nrz-chip, Narrows, narrows-three-of-six, narrows-manchester, narrows-nrz}
+use Rattle.airdamage.specs.ChipDamage.{Flipped, ChipBurst, NeverSent}
+use Rattle.airdamage.proofs.WordLaws.{unflipped}
+use Rattle.airdamage.proofs.ChipLaws.{bits-chips, nrz-chip, Differing, Together, Near, Narrows, narrows-manchester, narrows-nrz}
+use Rattle.airdamage.proofs.ThreeOfSixLaws.{narrows-three-of-six}
 
 -- two frames of one format: b of the content c, q of the content e
 module _ (f : Format) (b q : List ℕ) where
@@ -100,12 +105,63 @@ module _ (f : Format) (b q : List ℕ) where
       (λ t.
       absurd (other (new-bit p there ∙ overlaid-back p (ltb-false p (8 * length q) t) ∙ sym (old-bit p))))
 
-  overlaid-window :
-      (w : ℕ) → ((first : ℕ) × ((p : ℕ) → p < 8 * length b → p < 8 * length q → (chipAt q p ≡ chipAt b p → ⊥)
-      → (first ≤ p) × (p < first + w)))
-      → InWindow w (pattern (take (length b) b) (take (length b) overlaid))
-  overlaid-window w (first, differing) =
-      (first, λ p one. let at = overlaid-differs p one in differing p (at .0) (at .1 .0) (at .1 .1))
+  -- what the pattern has at a place of both, and behind the second frame
+  abbrev between-them : List ℕ
+  between-them = pattern (take (length b) b) (take (length b) overlaid)
+
+  digit-both :
+      (p : ℕ) → p < 8 * length b → p < 8 * length q → getD between-them p 0 ≡ bitXor (chipAt b p) (chipAt q p)
+  digit-both p in-b in-q =
+      pattern-at (take (length b) b) (take (length b) overlaid) overlaid-count p
+      ∙ ap₂ bitXor (old-bit p) (new-bit p in-b ∙ overlaid-front p in-q)
+
+  digit-behind : (p : ℕ) → p < 8 * length b → 8 * length q ≤ p → getD between-them p 0 ≡ 0
+  digit-behind p in-b out-q =
+      pattern-at (take (length b) b) (take (length b) overlaid) overlaid-count p
+      ∙ ap₂ bitXor (old-bit p) (new-bit p in-b ∙ overlaid-back p out-q) ∙ xor-self (chipAt b p)
+
+  digit-past : (p : ℕ) → 8 * length b ≤ p → getD between-them p 0 ≡ 0
+  digit-past p past =
+      let old = take (length b) b in
+      List·getD-eq-default between-them 0 (omega (
+        arith,
+        length-pattern old (take (length b) overlaid) overlaid-count,
+        length-take-le (length b) b (omega arith),
+      ))
+
+  -- two places of which the first is even are both there or both not
+  digits-together : (p : ℕ) → Together b q p → getD between-them p 0 ≡ getD between-them (suc p) 0
+  digits-together p pair =
+      let even = pair .even in
+      by-test (ltb (suc p) (8 * length b))
+      (λ t.
+      let in-b = ltb-true (suc p) (8 * length b) t in
+      by-test (ltb (suc p) (8 * length q))
+      (λ e.
+      let in-q = ltb-true (suc p) (8 * length q) e in
+      digit-both p (omega arith) (omega arith) ∙ pair .both in-b in-q ∙ sym (digit-both (suc p) in-b in-q))
+      (λ e.
+      let out-q = ltb-false (suc p) (8 * length q) e in
+      digit-behind p (omega arith) (omega arith) ∙ sym (digit-behind (suc p) in-b out-q)))
+      (λ t.
+      let past = ltb-false (suc p) (8 * length b) t in
+      digit-past p (omega arith) ∙ sym (digit-past (suc p) past))
+
+  overlaid-within :
+      (w first : ℕ) → Differing b q first w → (p : ℕ) → (getD between-them p 0 ≡ 0 → ⊥)
+      → (first ≤ p) × (p < first + w)
+  overlaid-within w first differing p one =
+      let at = overlaid-differs p one in
+      differing p (at .0) (at .1 .0) (at .1 .1)
+
+  overlaid-near : Near b q → NearTwin between-them
+  overlaid-near near =
+      ⊎-elim (λ one. inl (one .0, overlaid-within 16 (one .0) (one .1)))
+      (λ two. inr (two .0, (overlaid-within 17 (two .0) (two .1 .0), digits-together (two .0) (two .1 .1)))) near
+
+-- such patterns tell
+twins-tell : Telling 1024 NearTwin Zeros
+twins-tell = telling-zeros 1024 NearTwin twin-front twin-back (λ u short. near-zeros u)
 
 -- two frames in chips at one place
 module _ (k : Kind) (s t : List ℕ) (place : ℕ) (c e : List ℕ) (sc : SentAt k s place c) (se : SentAt k t place e) where
@@ -151,24 +207,17 @@ module _ (k : Kind) (s t : List ℕ) (place : ℕ) (c e : List ℕ) (sc : SentAt
   bytes-u : Bytes u
   bytes-u = bytes-append q (drop (length q) b) bytes-q (bytes-drop (length q) b bytes-b)
 
-  module _ (window : InWindow 16 (pattern (take (length b) b) (take (length b) u))) (kept : LengthStays b u) where
+  module _ (window : NearTwin (pattern (take (length b) b) (take (length b) u))) (kept : LengthStays b u) where
     no-bit : Zeros (pattern (take (length b) b) (take (length b) u))
     no-bit =
-        same-spans frame-b frame-u bytes-b bytes-u (windows-tell 16 1024 (omega arith)) (narrow f (length c)) kept
-        window
+        same-spans frame-b frame-u bytes-b bytes-u twins-tell (narrow f (length c)) kept window
 
     one-size : length q ≡ length b
     one-size = same-size frame-b frame-u bytes-b bytes-u kept .0
 
     same-bit : (p : ℕ) → p < 8 * length b → chipAt b p ≡ chipAt q p
     same-bit p h =
-        unflipped q b p
-        (λ other.
-        inverted-pattern (take (length b) b) (take (length b) u) (overlaid-count f b q) p
-        (λ same.
-        other (sym (old-bit f b q p) ∙ sym same ∙ new-bit f b q p h
-        ∙ overlaid-front f b q p (omega (arith, one-size))))
-        (no-bit p))
+        xor-equal (chipAt b p) (chipAt q p) (sym (digit-both f b q p h (omega (arith, one-size))) ∙ no-bit p)
 
     one-frame : b ≡ q
     one-frame =
@@ -200,7 +249,7 @@ KeptIn k w skip =
     → ChipBurst w (place + leadOf k + skip) (place + sentChips k (length c)) s t
     → let b = frameOf (formatOf k) c in
     let u = overlaid (formatOf k) b (frameOf (formatOf k) e) in
-    InWindow 16 (pattern (take (length b) b) (take (length b) u)) → LengthStays b u
+    NearTwin (pattern (take (length b) b) (take (length b) u)) → LengthStays b u
 
 never-sent : (k : Kind) (w skip : ℕ) → Narrows (lineOf k) w → KeptIn k w skip → NeverSent k w skip
 never-sent k w skip narrows kept s t place c sc damage e se =
@@ -209,7 +258,7 @@ never-sent k w skip narrows kept s t place c sc damage e se =
     let q = frameOf f e in
     let first = narrows s t (place + leadOf k) b q (coded-sent sc .holds) (coded-sent se .holds) (damage .first)
     (damage .within) in
-    let window = overlaid-window f b q 16 first in
+    let window = overlaid-near f b q first in
     let there = damage .inside (damage .place) (damage .differs) in
     no-chip k s t place c e sc se window (kept s t place c e sc se damage window) (damage .place)
     (omega (arith, there .0)) (there .1) (damage .differs)
@@ -220,7 +269,7 @@ kept-in-a k w skip a s t place c e sc se damage window =
     let f = formatOf k in
     let b = frameOf f c in
     let q = frameOf f e in
-    kept-a (windows-tell 16 1024 (omega arith)) (omega arith) (λ old new. InWindow 16 (pattern old new))
+    kept-a twins-tell (omega arith) (λ old new. NearTwin (pattern old new))
     (λ old new p. p) b (overlaid f b q) (length b) (length q) c e
     (subst (λ (g : Format). FrameAt g b (length b) c) a (frame-b k s t place c e sc se))
     (subst (λ (g : Format). FrameAt g (overlaid f b q) (length q) e) a (frame-u k s t place c e sc se))
@@ -242,17 +291,18 @@ kept-in-b w eight s t place c e sc se damage window =
     ∙ nrz-chip s at b (coded-sent sc .holds) (0 + i) (omega arith))
     ∙ wordAt-byte b 0 (bytes-b CWithB s t place c e sc se 0)
 
-pub chips-seen : ChipsSeen
-chips-seen =
-    record {
-      mode-t = never-sent TWithA _ 0 (narrows-three-of-six (omega arith)) (kept-in-a TWithA _ 0 refl);
-      mode-c-format-a = never-sent CWithA _ 0 (narrows-nrz (omega arith)) (kept-in-a CWithA _ 0 refl);
-      mode-c-format-b = never-sent CWithB _ _ (narrows-nrz (omega arith)) (kept-in-b _ (omega arith));
-      manchester =
-          never-sent ManchesterWithA _ 0 (narrows-manchester (omega arith)) (kept-in-a ManchesterWithA _ 0 refl);
-      three-of-six-words = three-of-six-even;
-      manchester-words = manchester-even;
-    }
+-- what is always so, kind by kind
+pub never-t : {w : ℕ} → w ≤ 22 → NeverSent TWithA w 0
+never-t {w} le = never-sent TWithA w 0 (narrows-three-of-six le) (kept-in-a TWithA w 0 refl)
+
+pub never-c : {w : ℕ} → w ≤ 16 → NeverSent CWithA w 0
+never-c {w} le = never-sent CWithA w 0 (narrows-nrz le) (kept-in-a CWithA w 0 refl)
+
+pub never-m : {w : ℕ} → w ≤ 33 → NeverSent ManchesterWithA w 0
+never-m {w} le = never-sent ManchesterWithA w 0 (narrows-manchester le) (kept-in-a ManchesterWithA w 0 refl)
+
+pub never-b : {w skip : ℕ} → w ≤ 16 → 8 ≤ skip → NeverSent CWithB w skip
+never-b {w} {skip} le eight = never-sent CWithB w skip (narrows-nrz le) (kept-in-b w eight)
 
 -- what a call would accept there was sent there
 pub not-received :

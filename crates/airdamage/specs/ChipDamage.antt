@@ -7,12 +7,14 @@
 --     wordChips κ y            the chips of the word y, first chip first
 --     EvenlyApart κ            two code words differ in an even number of chips: so a code word with an odd number of
 --                              inverted chips is none
---     ChipsSeen                this of three-of-six and Manchester; and for how many consecutive chips no frame of the
---                              kind can stand there, kind by kind. Of mode C with format B the chips of the length
---                              byte are not among the inverted
+--     chipsAnywhere k          within so many consecutive chips of a frame of kind k that is so, wherever they lie: 0
+--                              for mode C with format B, where nothing is promised if the length byte is among them
+--     ChipsSeen                so it is, exactly; in mode C with format B within 16 chips behind those of the length
+--                              byte, exactly; and three-of-six and Manchester have such words
 -- SentAt is what demand 2 measures receiving by: so nothing is received there as kind k. What stands around the frame
 -- is t's own: s may have anything there.
 use mathlib.Core.List.{List}
+use mathlib.Core.Logic.{_↔_}
 use mathlib.Core.Path.{_≡_}
 use Prim.Native.Nat.{ℕ, _+_, _-_, _/_, _%_, _≤_, _<_, _^_}
 use lib.ListN.{length}
@@ -50,10 +52,14 @@ EvenlyApart κ =
     (x y : ℕ) → x < 2 ^ κ .bits → y < 2 ^ κ .bits
     → apart (wordChips κ (κ .wordOf x)) (wordChips κ (κ .wordOf y)) % 2 ≡ 0
 
+abbrev pub chipsAnywhere : Kind → ℕ
+chipsAnywhere TWithA = 22
+chipsAnywhere CWithA = 16
+chipsAnywhere CWithB = 0
+chipsAnywhere ManchesterWithA = 33
+
 pub record ChipsSeen : Type 0 where
-  pub mode-t : NeverSent TWithA 21 0
-  pub mode-c-format-a : NeverSent CWithA 16 0
-  pub mode-c-format-b : NeverSent CWithB 16 8
-  pub manchester : NeverSent ManchesterWithA 33 0
+  pub anywhere : (k : Kind) (w : ℕ) → NeverSent k w 0 ↔ (w ≤ chipsAnywhere k)
+  pub behind-the-length : (w : ℕ) → NeverSent CWithB w 8 ↔ (w ≤ 16)
   pub three-of-six-words : EvenlyApart (codeOf ThreeOfSix)
   pub manchester-words : EvenlyApart (codeOf Manchester)

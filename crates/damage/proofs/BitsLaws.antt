@@ -89,7 +89,7 @@ module _ (old new : List ℕ) (count : length new ≡ length old) where
   pub length-pattern : length (pattern old new) ≡ 8 * length old
   length-pattern = length-xors (bitsOf old) (bitsOf new) bits-count ∙ length-bitsOf old
 
-  pattern-at : (p : ℕ) → getD (pattern old new) p 0 ≡ bitXor (getD (bitsOf old) p 0) (getD (bitsOf new) p 0)
+  pub pattern-at : (p : ℕ) → getD (pattern old new) p 0 ≡ bitXor (getD (bitsOf old) p 0) (getD (bitsOf new) p 0)
   pattern-at p = getD-xors (bitsOf old) (bitsOf new) p bits-count
 
   pub pattern-digits : Digits (pattern old new)

@@ -22,8 +22,8 @@ use Rattle.patterns.proofs.ZerosLaws.{inside}
 use Rattle.patterns.proofs.WindowLaws.{window-front, window-back}
 use Rattle.patterns.proofs.OddLaws.{even-ones}
 use Rattle.patterns.proofs.FewLaws.{few-zeros, ones-none}
-use Rattle.damage.specs.Damage.{bitsOf, Burst, inverted, Few, Odd, Behind}
-use Rattle.damage.specs.Seen.{AlwaysSeen}
+use Rattle.damage.specs.Damage.{bitsOf, Burst, inverted, Few, Odd, Behind, InBlock}
+use Rattle.damage.specs.Seen.{AlwaysSeen, AlwaysNamed}
 use Rattle.damage.specs.Frames as it
 use Rattle.damage.specs.Promise.{fewAnywhere, FewBitsSeen, OneBlockSeen, BlockNamed}
 use Rattle.damage.proofs.BitsLaws.{pattern, pattern-ones, damaged-pattern}
@@ -105,13 +105,8 @@ even-append u v e f = omega (arith, ones-append u v)
 odd-tell : (limit : ℕ) → Telling limit (λ u. u ≡ u) Even
 unfolding ones
 odd-tell limit =
-    record {
-      front = λ u v q. refl;
-      back = λ u v q. refl;
-      none = refl;
-      join = even-append;
-      block = λ u short d q. even-ones u d;
-    }
+    let all : (u v : List ℕ) → u ++ v ≡ u ++ v → u ≡ u = λ u v q. refl in
+    record { front = all; back = λ u v q. refl; none = refl; join = even-append; block = λ u s d q. even-ones u d }
 
 odd-pattern : (old new : List ℕ) → Odd old new → Even (pattern old new) → ⊥
 odd-pattern old new b even = omega (arith, b .1, pattern-ones old new (b .0 .count))
@@ -162,22 +157,35 @@ few-bits =
 
 -- ---- one block is enough
 
+burst-in-block : (f : Format) {w : ℕ} → w ≤ 16 → AlwaysSeen f (Behind (InBlock f (Burst w)))
+burst-in-block f {w} le =
+    block-seen (windows-tell w 1024 le) (Burst w) (λ old new b. burst-window b)
+    (λ old new b. damaged-pattern (b .damaged)) f (narrow f)
+
+near-in-block : (f : Format) → AlwaysSeen f (Behind (InBlock f (Near 5)))
+near-in-block f =
+    block-seen (near-tell 1024) (Near 5) (near-pattern (omega arith))
+    (λ old new b. damaged-pattern (b .0 .damaged)) f (narrow f)
+
+odd-in-block : (f : Format) → AlwaysSeen f (Behind (InBlock f Odd))
+odd-in-block f = block-seen (odd-tell 1024) Odd (λ old new b. refl) odd-pattern f (narrow f)
+
 pub one-block : OneBlockSeen
-one-block =
-    record {
-      bursts = λ f. block-seen (windows-tell _ 1024 (omega arith)) (Burst _) (λ old new b. burst-window b)
-          (λ old new b. damaged-pattern (b .damaged)) f (narrow f);
-      few-bits = λ f. block-seen (near-tell 1024) (Near 5) (near-pattern (omega arith))
-          (λ old new b. damaged-pattern (b .0 .damaged)) f (narrow f);
-      odd = λ f. block-seen (odd-tell 1024) Odd (λ old new b. refl) odd-pattern f (narrow f);
-    }
+one-block = record { bursts = λ f. burst-in-block f (omega arith); few-bits = near-in-block; odd = odd-in-block }
+
+-- ---- and is named
+
+burst-named : (f : Format) → AlwaysNamed f (Behind (Burst 16))
+burst-named f =
+    always-named f (windows-tell 16 1024 (omega arith)) (narrow f) (Burst 16) (λ old new b. burst-window b)
+    (λ old new b. b .damaged)
+
+near-named : (f : Format) → AlwaysNamed f (Behind (Near 5))
+near-named f =
+    always-named f (near-tell 1024) (narrow f) (Near 5) (near-pattern (omega arith)) (λ old new b. b .0 .damaged)
+
+few-named : AlwaysNamed A (Behind (Few 5))
+few-named = always-named A blocks-tell narrow-a (Few 5) (few-pattern (omega arith)) (λ old new b. b .0)
 
 pub block-named : BlockNamed
-block-named =
-    record {
-      bursts = λ f. always-named f (windows-tell 16 1024 (omega arith)) (narrow f) (Burst 16)
-          (λ old new b. burst-window b) (λ old new b. b .damaged);
-      few-bits = λ f. always-named f (near-tell 1024) (narrow f) (Near 5) (near-pattern (omega arith))
-          (λ old new b. b .0 .damaged);
-      few-in-format-a = always-named A blocks-tell narrow-a (Few 5) (few-pattern (omega arith)) (λ old new b. b .0);
-    }
+block-named = record { bursts = burst-named; few-bits = near-named; few-in-format-a = few-named }

@@ -41,7 +41,7 @@ use Rattle.patterns.proofs.ZerosLaws.{inside}
 
 -- ---- by counting
 
-passes : ℕ → ℕ → List ℕ → List ℕ → ℕ → Bool
+unfoldable pub passes : ℕ → ℕ → List ℕ → List ℕ → ℕ → Bool
 passes w first u v p = eqb (getD v p 0) (getD u p 0) || (leb first p && ltb p (first + w))
 
 passes-within :
@@ -55,6 +55,17 @@ passes-within w first u v p t differs =
     subst (λ (b : Bool). T (b || (leb first p && ltb p (first + w)))) e t in
     (leb→le first p (and-l (leb first p) _ both), ltb→lt p (first + w) (and-r (leb first p) _ both)))
 
+pub burst-within :
+    (old new : List ℕ) → length new ≡ length old → (w first : ℕ)
+    → T (allBelow (passes w first (bitsOf old) (bitsOf new)) (8 * length old))
+    → (p : ℕ) → Inverted old new p → (first ≤ p) × (p < first + w)
+burst-within old new count w first all p one =
+    let there : p < length (pattern old new) = inside (pattern old new) p (inverted-pattern old new count p one) in
+    passes-within w first (bitsOf old) (bitsOf new) p
+    (allBelow-at (passes w first (bitsOf old) (bitsOf new)) (8 * length old) all p
+    (omega (arith, length-pattern old new count)))
+    one
+
 module _ (old new : List ℕ) (count : length new ≡ length old) (place : ℕ) (differs : Inverted old new place) where
   damaged : Damaged old new
   damaged = record { count = count; place = place; differs = differs }
@@ -62,21 +73,10 @@ module _ (old new : List ℕ) (count : length new ≡ length old) (place : ℕ) 
   burst :
       (w first : ℕ) → T (allBelow (passes w first (bitsOf old) (bitsOf new)) (8 * length old)) → Burst w old new
   burst w first all =
-      record {
-        damaged = damaged;
-        first = first;
-        within =
-            λ p one.
-            let there : p < length (pattern old new) =
-            inside (pattern old new) p (inverted-pattern old new count p one) in
-            passes-within w first (bitsOf old) (bitsOf new) p
-            (allBelow-at (passes w first (bitsOf old) (bitsOf new)) (8 * length old) all p
-            (omega (arith, length-pattern old new count)))
-            one;
-      }
+      record { damaged = damaged; first = first; within = burst-within old new count w first all }
 
 -- whether all elements are bytes
-abbrev areBytes : List ℕ → Bool
+abbrev pub areBytes : List ℕ → Bool
 areBytes w = allBelow (λ j. ltb (getD w j 0) 256) (length w)
 
 module _

@@ -52,8 +52,7 @@ module _ {limit : ℕ} {Q P : List ℕ → Type 0} (tells : Telling limit Q P) w
       (k : ℕ) (s t : List ℕ) → Bytes s → Bytes t → k + 2 ≤ length s → k + 2 ≤ length t → 8 * (k + 2) ≤ limit
       → blockOk k s ≡ true → blockOk k t ≡ true → Q (between (k + 2) s t) → P (between (k + 2) s t)
   told-block k s t bs bt fs ft small os ot q =
-      let count : length (take (k + 2) t) ≡ length (take (k + 2) s) =
-      length-take-le (k + 2) t ft ∙ sym (length-take-le (k + 2) s fs) in
+      let count = length-take-le (k + 2) t ft ∙ sym (length-take-le (k + 2) s fs) in
       tells .block (between (k + 2) s t)
       (omega (arith, length-pattern (take (k + 2) s) (take (k + 2) t) count, length-take-le (k + 2) s fs))
       (pattern-digits (take (k + 2) s) (take (k + 2) t) count) q (unseen-left k s t bs bt fs ft os ot)

@@ -48,7 +48,8 @@ use Rattle.proposals.proofs.SixteenLaws.{nearest-first, nearest-else, mends}
 use Rattle.damage.proofs.BurstLaws.{bursts}
 use Rattle.damage.proofs.FewBitsLaws.{few-bits, one-block, block-named}
 use Rattle.damage.proofs.Unseen.{limits, unseen-not-always}
-use Rattle.airdamage.proofs.SeenLaws.{chips-seen, not-received}
+use Rattle.airdamage.proofs.SeenLaws.{not-received}
+use Rattle.airdamage.proofs.ExactLaws.{chips-seen}
 use Rattle.proposals.proofs.Seventeen.{heard17, sent, other, all-bytes17, sent-is, other-is}
 use Rattle.kusikhut.specs.Told.{told, refusalPlace}
 use Rattle.demands.specs.Demands.{ChipNumbers, FrameNumbers, MeterNumbers, StoreNumbers, Plain, AcceptedRows, RefusedRows, StoreRows, InCodes, InHeaders, InBytes, InChips, Changes, StoreFiles, StoreMeters, StorePromise, CorrectionNumbers, CorrectionPromise, MendingNumbers, MendingPromise, SixteenPromise, DamagePromise}

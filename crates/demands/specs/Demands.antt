@@ -676,8 +676,8 @@ pub record SixteenPromise : Type 0 where
 -- Behind the length byte one block with such damage is enough, whatever the other blocks have (`one-block`). Of a burst
 -- and of few bits there, 3 names the first block that has a wrong byte (`block-named`). `limits` has the frames that
 -- show why the numbers are not larger; by `no-more` what can go unseen is not always seen.
--- In chips (airdamage/specs): where all inverted chips lie within so many consecutive ones, no frame of the same kind
--- can stand where one was sent; so none is received there, by whatever call (`not-received`).
+-- In chips (airdamage/specs): within how many consecutive inverted chips, exactly, no frame of the same kind can stand
+-- where one was sent; so none is received there, by whatever call (`not-received`).
 pub record DamagePromise : Type 1 where
   pub bursts : BurstsSeen
   pub few-bits : FewBitsSeen

@@ -20,7 +20,7 @@ use Rattle.patterns.proofs.RegisterLaws.{bitIn-none}
 use Rattle.patterns.proofs.ZerosLaws.{zeros-cons, not-one}
 
 -- one more digit of a number that has room for it
-digit-in : (v t : ℕ) → v < 32768 → t < 2 → bitXor (bitIn v) t ≡ v * 2 + t
+pub digit-in : (v t : ℕ) → v < 32768 → t < 2 → bitXor (bitIn v) t ≡ v * 2 + t
 digit-in v t hv ht =
     let whole : v * 2 % 65536 ≡ v * 2 = omega arith in
     ap (λ (x : ℕ). bitXor x t) (sym (bitIn-low v hv) ∙ whole) ∙ xor-shifted v 1 t ht
@@ -75,7 +75,7 @@ window-zeros w le u d within =
 
 -- ---- parts of a pattern
 
-front-one : (u v : List ℕ) (p : ℕ) → (getD u p 0 ≡ 0 → ⊥) → getD (u ++ v) p 0 ≡ getD u p 0
+pub front-one : (u v : List ℕ) (p : ℕ) → (getD u p 0 ≡ 0 → ⊥) → getD (u ++ v) p 0 ≡ getD u p 0
 front-one [] v p one = absurd (one refl)
 front-one (t ∷ u) v zero one = refl
 front-one (t ∷ u) v (suc p) one = front-one u v p one
