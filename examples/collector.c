@@ -20,15 +20,22 @@ enum { KIND, PLACE, TRIED, FRAME_SIZE, CONTENT_LENGTH, WRONG_BLOCK, BAD_WORD, RE
 
 static const char *const kinds[] = {"mode T, format A", "mode C, format A", "mode C, format B"};
 
-/* The content begins with the byte C, then the meter's name: two bytes M for its maker, low byte first, and six bytes
- * A. M stands for three letters, or for none. */
-static void print_maker(const uint8_t *content) {
-    uint64_t letters[4];
-    kusikhut_letters((uint16_t)(content[1] | content[2] << 8), letters);
-    if (letters[0])
-        printf("  maker    %c%c%c\n", (char)letters[1], (char)letters[2], (char)letters[3]);
+/* What kusikhut_maker writes into its row of results, in this order. */
+enum { HAS_LETTERS, LETTER_1, LETTER_2, LETTER_3, IS_SOFT, MAKER_RESULTS };
+
+/* The content begins with the byte C, then the name of the device that sent it: two bytes M for its maker, low byte
+ * first, and six bytes A, its address. M stands for three letters or none, and says how far A is unique. With EN 13757-3
+ * A is a number, sent with its low byte first, a version and a type; people print the number with its high byte first. */
+static void print_sender(const uint8_t *content) {
+    uint64_t maker[MAKER_RESULTS];
+    const uint8_t *a = content + 3;
+    kusikhut_maker((uint16_t)(content[1] | content[2] << 8), maker);
+    if (maker[HAS_LETTERS])
+        printf("  maker    %c%c%c\n", (char)maker[LETTER_1], (char)maker[LETTER_2], (char)maker[LETTER_3]);
     else
         printf("  maker    M has no letters\n");
+    printf("  address  %02X%02X%02X%02X version %02X type %02X, %s\n", a[3], a[2], a[1], a[0], a[4], a[5],
+           maker[IS_SOFT] ? "soft: unique at least within radio range" : "hard: unique worldwide");
 }
 
 static void receive(const char *what, const uint8_t *chips, size_t chips_len) {
@@ -47,7 +54,7 @@ static void receive(const char *what, const uint8_t *chips, size_t chips_len) {
     printf("  content  ");
     for (uint64_t i = 0; i < results[CONTENT_LENGTH]; i++) printf("%02X", content[i]);
     printf("\n");
-    print_maker(content);
+    print_sender(content);
 }
 
 int main(void) {

@@ -187,11 +187,14 @@ uint8_t kusikhut_header_write_8f(uint8_t cc, uint8_t acc, uint16_t m2, const uin
 /* Access announced by CC: 0 none, 1 none for now, 2 limited, 3 unlimited. */
 uint8_t kusikhut_access(uint8_t cc);
 
-/* Letters of M: always 0. results: 1 and the three letters as ASCII, or four zeros where M has no letters. */
-uint8_t kusikhut_letters(uint16_t m, uint64_t results[4]);
+/* What M says. The answer is always 0. m is content[1] + 256 * content[2], or M2 as kusikhut_header_read shows it, if
+ * CI is 8Eh or 8Fh: a header without M2 shows 0, which would be told as hard. results: 1 and three letters as ASCII, or
+ * four zeros where M has no letters; then, in both cases, 0 if the address is hard (unique worldwide), 1 if it is soft
+ * (unique at least within radio range). */
+uint8_t kusikhut_maker(uint16_t m, uint64_t results[5]);
 
 /* The meter filter. entries: sixteen of eight bytes, M then A; the first `count` are in use. 0, or 10, 5.
- * results[0]: 1 wanted, 0 not. */
+ * results[0]: 1 wanted, 0 not. All eight bytes count: names that differ in the top bit of M alone are two meters. */
 uint8_t kusikhut_filter(const uint8_t entries[16][8], size_t count, const uint8_t *content, size_t content_len,
                         uint64_t results[1]);
 

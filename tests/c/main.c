@@ -350,6 +350,20 @@ static void held(uint8_t *store) {
     expect(store[SIZE] == 0xEE, "store: nothing behind its memory is touched");
 }
 
+static void expect_maker(uint16_t m, const uint64_t due[5], const char *what) {
+    uint64_t r[6];
+    memset(r, 0xEE, sizeof r);
+    expect(kusikhut_maker(m, r) == 0 && memcmp(r, due, 5 * sizeof *r) == 0, what);
+    expect(all((const uint8_t *)(r + 5), sizeof *r, 0xEE), "maker: nothing behind its five results is touched");
+}
+
+static void makers(void) {
+    expect_maker(0x0443, (const uint64_t[5]){1, 'A', 'B', 'C', 0}, "maker: ABC, hard");
+    expect_maker(0x8443, (const uint64_t[5]){1, 'A', 'B', 'C', 1}, "maker: ABC, soft");
+    expect_maker(0x0000, (const uint64_t[5]){0, 0, 0, 0, 0}, "maker: no letters, hard");
+    expect_maker(0xFFFF, (const uint64_t[5]){0, 0, 0, 0, 1}, "maker: no letters, soft");
+}
+
 int main(void) {
     uint8_t store[SIZE + 1];
     uint64_t r[14];
@@ -376,7 +390,7 @@ int main(void) {
     held(store);
     expect(kusikhut_header_read(body, 3, r) == 0 && r[0] == 3 && r[1] == 0x8C && r[2] == 0x20 && r[3] == 0x27, "header");
     expect(kusikhut_access(0x84) == 3 && kusikhut_access(0x20) == 0, "access");
-    expect(kusikhut_letters(0x0443, r) == 0 && r[0] == 1 && r[1] == 'A' && r[2] == 'B' && r[3] == 'C', "letters");
+    makers();
     expect(kusikhut_centre(5, 0, khz) == 0 && khz[0] == 169481.25, "centre");
     expect(kusikhut_centre(5, 1, khz) == 13 && khz[0] == 0, "no such channel");
     if (!failed) puts("tests/c: the C program links the library and got every answer");

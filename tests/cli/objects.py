@@ -18,8 +18,8 @@ from pathlib import Path
 # A longer line is answered with an error, be it a comment or blank.
 LONGEST = 16384
 # The text does not show whether 2104 is a number or bytes, and none a word or nothing: these fields are bytes,
-BYTES = set("a2 acc byte bytes cc check check-bytes chips ci content crc frame header length-byte lent m2 meter proposed"
-            " received sent sn".split())
+BYTES = set("a2 acc byte bytes cc check check-bytes chips ci content crc frame header id length-byte lent m2 meter"
+            " proposed received sender sent sn type version".split())
 # and in these none is a word.
 NONE_IS_A_WORD = {"access"}
 
@@ -77,7 +77,7 @@ def head(reply):
 
 
 def answer_lines(reply):
-    """The lines of an answer: its own, then one for each thing below it."""
+    """The lines of an answer: its own, then one for each thing below it; what is below an inner one is set in more."""
     if list(reply)[:2] != ["answer", "name"] or type(reply["answer"]) is not int:
         raise Wrong("answer and name do not come first")
     lines, below = [head(reply)], False
@@ -88,7 +88,8 @@ def answer_lines(reply):
         if isinstance(value, list):
             lines += [" " + fields(row.items()) for row in value]
         elif isinstance(value, dict) and "answer" in value:
-            lines.append(f"  {name}={head(value)}")
+            own, *inner = answer_lines(value)
+            lines += [f"  {name}={own}", *(f"  {line}" for line in inner)]
         elif isinstance(value, dict):
             lines.append(" " + fields(value.items()))
     return lines
@@ -171,10 +172,12 @@ EXAMPLE = f"""# a comment
 write A +10*00 room=16 show=lent
 search - allowance=0
 letters received=0000
+letters received=4384
 access 00
 
 channel 5 0
 filter 44AE0C785634120107 AE0C785634120107
+read A {SENT} room=16
 band B
 mend A {RECEIVED}
 damage A {SENT} {CAME}
@@ -185,6 +188,10 @@ help 3
 picture read A 09
 """.encode()
 FIRST = b'"frame":"0A000000000000000000692400FFFF"'
+SENDER = b',"from":{"sender":"AE0C785634120107","letters":"CEN","address":"hard",' \
+         b'"id":"12345678","version":"01","type":"07"}'
+# what is read, and mended and read, with its sender below
+READ = b'"content":"44AE0C785634120107780B13436587"'
 # what is planted: a part of the JSON, and what stands there instead
 PLANTED = {
     "a number as a string": (b'"size":15', b'"size":"15"'),
@@ -207,6 +214,11 @@ PLANTED = {
     "no number at all": (b"169481.25,", b"NaN,"),
     "a row that is missing": (b',{"index":6,"channel":0,"hertz":169481250}', b""),
     "another answer below": (b'"reading":{"answer":0', b'"reading":{"answer":3'),
+    "a soft address as a hard one": (b'"address":"soft"', b'"address":"hard"'),
+    "an identification number as a number": (b'"id":"12345678"', b'"id":12345678'),
+    "a sender below that is missing": (READ + b',"left":1' + SENDER, READ + b',"left":1'),
+    "a sender below an answer below that is missing": (READ + SENDER, READ),
+    "another sender below an answer below": (READ + SENDER, READ + SENDER.replace(b"hard", b"soft")),
     "a field behind what is below": (b'"covered":false}', b'"covered":false},"size":1'),
     "a truth turned over": (b'"length-byte-changed":false', b'"length-byte-changed":true'),
     "another message": (b"a byte is two", b"a byte is four"),

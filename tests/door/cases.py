@@ -157,9 +157,9 @@ class Frame:
         return "".join(self.cells[block[1] - 2:block[1]])
 
     def makers(self):
-        """What to ask for the letters of each pair of neighbours: M, and M2 wherever a header has it."""
+        """What to ask of each pair of neighbours for what it says as M, or as M2 wherever a header has it."""
         pairs = zip(self.cells, self.cells[1:2 * A_ROW])
-        return [letters_of(pair) for pair in pairs if known(pair)]
+        return [maker_of(pair) for pair in pairs if known(pair)]
 
     def questions(self):
         spans = [self.span(block) for block in self.blocks]
@@ -195,7 +195,8 @@ def size_of(program, format, length):
     return program[f"size {format} 0x{length}"].get("size")
 
 
-def letters_of(pair):
+def maker_of(pair):
+    """What to ask for the letters of M, and whether its address is hard or soft."""
     return f"letters received={pair[0]}{pair[1]}"
 
 

@@ -2,13 +2,15 @@
 import re
 from itertools import groupby
 
-from cases import A_ROW, COLOURS, KINDS, SYNC, counted, digits, known, letters_of, word_of
+from cases import A_ROW, COLOURS, KINDS, SYNC, counted, digits, known, maker_of, word_of
 from drawing import IN_ORDER, KEYS
 
 LEFT, BYTE, CHIP = 70, 72, 6
 CHIPS_A_ROW, MOST_ROWS = 144, 8
 BYTES_A_LINE = 32
 NOTHING = ("bad", "No content is handed over")
+# What of an answer is not in its headline: the bytes, which are drawn, and what stands below it.
+NOT_IN_HEADLINE = ("answer", "name", "content", "lent", "from")
 # What these classes show is red, and nothing else is.
 RED = {"bad", "bad-box", "bad-line", "gone"}
 
@@ -40,7 +42,7 @@ class Expected:
 
     def headline(self):
         plain = self.case.plain
-        fields = [f" {name}={plain[name]}" for name in plain if name not in ("answer", "name", "content", "lent")]
+        fields = [f" {name}={plain[name]}" for name in plain if name not in NOT_IN_HEADLINE]
         return f"{plain['answer']} {plain['name']}{''.join(fields)}"
 
     def lead(self):
@@ -159,7 +161,8 @@ class Expected:
         if name == "L" and known(cells):
             return f"L: {int(cells[0], 16)}"
         if name in ("M", "M2") and known(cells) and len(cells) == 2:
-            return f"{name}: {self.program[letters_of(cells)]['letters'] or 'no letters'}"
+            said = self.program[maker_of(cells)]
+            return f"{name}: {said['letters'] or 'no letters'}, {said['address']}"
         return "A: address" if name == "A" else name
 
     def brackets(self, row, start, end):

@@ -5,7 +5,8 @@ Each line of the files that reads a frame (`receive`, `manchester`, `read`) is d
 frames of all kinds, whole, cut, with wrong checks and bad words, with and without extended headers. Each drawing is
 read (drawing.py) and must say what the program's other commands say of the same chips, all of it and nothing else:
 
-  - its answer is the plain one, field by field, in the object, in the first line and in the title;
+  - its answer is the plain one, field by field, in the object, in the first line and in the title; the sender below it
+    is the content's (letters);
   - the signal, the digits below it and the words are the chips that were received, each at its place (search, word);
   - the bytes are what these chips stand for (decode), as many as the length byte says (size), or those that came;
   - fields are named under their bytes (letters, header), blocks stand where the format has them, and what is said of a
@@ -22,7 +23,7 @@ import xml.etree.ElementTree as ET
 from pathlib import Path
 
 sys.dont_write_bytecode = True  # a test leaves nothing beside the sources
-from cases import KINDS, SYNC, Program, cases_of, word_of
+from cases import KINDS, SYNC, Program, cases_of, maker_of, word_of
 from drawing import KEYS, Drawing
 from expected import RED, Expected, under_its_block
 from made import Maker
@@ -37,6 +38,8 @@ def answer_faults(case, program):
         yield f"has its frame at {place} as {case.kind}"
     if number == 0 and program[case.writing()]["frame"] != "".join(frame.cells):
         yield f"gives other bytes than writing its content: {program[case.writing()]['frame']}"
+    if plain.get("from") != sender(case, program):
+        yield f"has the sender {sender(case, program)}"
     if number in (0, 3, 4):
         wrong = [k for k, block in enumerate(frame.blocks, 1) if not frame.right(program, block)]
         if wrong[:1] != ([plain["block"]] if number == 3 else []):
@@ -47,6 +50,16 @@ def answer_faults(case, program):
         yield f"has the length byte {frame.cells[0]}"
     if number == 6 and plain["word"] != first_bad_word(case, program):
         yield f"has its first bad word at {first_bad_word(case, program)}"
+
+
+def sender(case, program):
+    """What stands below an accepted answer: M and A of its content, what M says, and A as it is printed."""
+    if case.number:
+        return None
+    m_low, m_high, *a = re.findall("..", case.plain["content"][2:18])
+    said = program[maker_of((m_low, m_high))]
+    return {"sender": case.plain["content"][2:18], "letters": said["letters"], "address": said["address"],
+            "id": "".join(reversed(a[:4])), "version": a[4], "type": a[5]}
 
 
 def missing(case):

@@ -8,6 +8,8 @@ PLAIN = "0F44AE0C7856341201074447780B134365871E6D"
 T = "543D5A971C9B25B44EC65A2DC34E58D59371C7134EC5A334B70B699B133726B1"
 SAMPLES = {
     "bytes": f"read A {PLAIN}",
+    # soft addresses: M has letters, M2 has none
+    "soft": "read A 1A44AE8C78563412010729FD8E2027FFFF785634120107780B13436535948737A8",
     "whole": f"receive 55{T}5555",
     "mode C": "receive 55555555543D543D1444AE0C7856341201078C2027780B134365877AC5",
     "manchester": "manchester AA559A9A6656AA5A956A9996A59AA9A6AAA9AA959A9A9A95956AAA65A9A59AA596996A95A9569659",
@@ -105,6 +107,10 @@ PLANTED = [
     ("one more missing byte", "cut", "boxes", other('(<rect )x="574"([^>]*"gone"/>)', r'\1x="574"\2\1x="646"\2')),
     ("other letters of the maker", "bytes", "names", other("M: CEN", "M: CEM")),
     ("no letters of the maker", "bytes", "names", other("M: CEN", "M: no letters")),
+    ("hard for soft", "soft", "names", other("M: CEN, soft", "M: CEN, hard")),
+    ("soft for hard", "bytes", "names", other("M: CEN, hard", "M: CEN, soft")),
+    ("hard for soft in a header", "soft", "names", other("M2: no letters, soft", "M2: no letters, hard")),
+    ("nothing said of hard or soft", "bytes", "names", other("M: CEN, hard", "M: CEN")),
     ("another length", "bytes", "names", other("L: 15", "L: 16")),
     ("fields in each other's place", "mode C", "names", exchanged(">CC<", ">ACC<")),
     ("the next CI as data", "mode C", "names", other(">next CI<", ">data<")),
@@ -171,6 +177,9 @@ PLANTED = [
 ]
 
 
+# The sender of the soft sample, with a lie in it.
+TOLD_AS_HARD = {"sender": "AE8C785634120107", "letters": "CEN", "address": "hard", "id": "12345678", "version": "01",
+                "type": "07"}
 # Wrong answers: only drawn, and given as well.
 DRAWN_ANSWERS = [("another size", "whole", {"size": 21}), ("another block", "wrong", {"block": 1})]
 ANSWERS = [
@@ -181,6 +190,10 @@ ANSWERS = [
     ("another length byte", "length", {"l": 8}),
     ("other chips missing", "cut", {"missing-chips": 12}),
     ("other chips missing in the tail", "short tail", {"missing-chips-at-least": 16}),
+    ("a soft sender told as hard", "soft", {"from": TOLD_AS_HARD}),
+    ("a sender not turned round", "soft", {"from": TOLD_AS_HARD | {"address": "soft", "id": "78563412"}}),
+    ("no sender", "soft", {"from": None}),
+    ("a sender of a refused frame", "cut", {"from": TOLD_AS_HARD}),
 ]
 
 

@@ -1,6 +1,6 @@
 -- The maker's letters (EN 13757-4:2019, 12.5.5).
 --     lettersOf-first, -second, -third, -all    the answer by the first part that is no letter, and where there is none
---     lettersOf-top      the top bit of M is no part of a letter
+--     lettersOf-low      numbers with the same 15 low bits have the same letters: the top bit is no part of one
 --     Spelled m x y z    x, y, z are letters, and the 15 low bits of m are theirs, five bits each
 --     lettersOf-three    M has the letters x, y, z exactly then
 use mathlib.Core.Path.{_≡_, refl, _∙_, sym}
@@ -12,8 +12,8 @@ use borrow.Author.Tests.{leb-true, le-leb}
 use lib.Dec.{leb}
 use Rattle.ground.proofs.CaseLaws.{and-left, and-right, zero-not-one}
 use Rattle.address.specs.Letters.{firstOf, secondOf, thirdOf, isLetter, asciiOf, lettersOf}
-use Rattle.address.specs.declared.Maker.{Maker}
-use Rattle.address.specs.declared.Maker.the-variants.{Three, NoLetters}
+use Rattle.address.specs.declared.Spelling.{Spelling}
+use Rattle.address.specs.declared.Spelling.the-variants.{Three, NoLetters}
 
 module _ (m : ℕ) where
   pub lettersOf-first : isLetter (firstOf m) ≡ false → NoLetters ≡ lettersOf m
@@ -31,11 +31,11 @@ module _ (m : ℕ) where
         → Three (asciiOf (firstOf m)) (asciiOf (secondOf m)) (asciiOf (thirdOf m)) ≡ lettersOf m
     lettersOf-all r = rw (p, q, r)
 
-pub lettersOf-top : (m : ℕ) → lettersOf (m + 32768) ≡ lettersOf m
-lettersOf-top m =
-    let first : firstOf (m + 32768) ≡ firstOf m = omega arith in
-    let second : secondOf (m + 32768) ≡ secondOf m = omega arith in
-    let third : thirdOf (m + 32768) ≡ thirdOf m = omega arith in
+pub lettersOf-low : (m k : ℕ) → m % 32768 ≡ k % 32768 → lettersOf m ≡ lettersOf k
+lettersOf-low m k e =
+    let first : firstOf m ≡ firstOf k = omega arith in
+    let second : secondOf m ≡ secondOf k = omega arith in
+    let third : thirdOf m ≡ thirdOf k = omega arith in
     rw (first, second, third)
 
 pub record Spelled (m x y z : ℕ) : Type 0 where
@@ -55,7 +55,7 @@ low-parts : (m : ℕ) → m % 32768 ≡ firstOf m * 1024 + secondOf m * 32 + thi
 low-parts m = omega arith
 
 cond-three :
-    (b : Bool) {u : Maker} {x y z : ℕ} → cond b u NoLetters ≡ Three x y z → (b ≡ true) × (u ≡ Three x y z)
+    (b : Bool) {u : Spelling} {x y z : ℕ} → cond b u NoLetters ≡ Three x y z → (b ≡ true) × (u ≡ Three x y z)
 cond-three true e = (refl, e)
 cond-three false e = absurd (zero-not-one (cc))
 

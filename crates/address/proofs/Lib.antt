@@ -1,4 +1,5 @@
 pub mod LettersLaws
+pub mod MakerLaws
 pub mod NameLaws
 pub mod WorkedExamples
 pub mod KeyLaws

@@ -3,12 +3,12 @@
 --     isLetter v      whether v is 1 to 26
 --     asciiOf v       the letter's ASCII byte (ISO/IEC 646): 41h for 1 to 5Ah for 26
 --     lettersOf m     the three letters, or that M has none: an answer of its own, no refusal
--- Not here: what the top bit says of the address.
+-- What the top bit says: specs/Makers.
 use mathlib.Core.Bool.{Bool, cond, _&&_}
 use Prim.Native.Nat.{ℕ, _+_, _/_, _%_}
 use lib.Dec.{leb}
-use Rattle.address.specs.declared.Maker.{Maker}
-use Rattle.address.specs.declared.Maker.the-variants.{Three, NoLetters}
+use Rattle.address.specs.declared.Spelling.{Spelling}
+use Rattle.address.specs.declared.Spelling.the-variants.{Three, NoLetters}
 
 abbrev pub firstOf : ℕ → ℕ
 firstOf m = m / 1024 % 32
@@ -25,7 +25,7 @@ isLetter v = leb 1 v && leb v 26
 abbrev pub asciiOf : ℕ → ℕ
 asciiOf v = v + 64
 
-abbrev pub lettersOf : ℕ → Maker
+abbrev pub lettersOf : ℕ → Spelling
 lettersOf m =
     cond (isLetter (firstOf m) && (isLetter (secondOf m) && isLetter (thirdOf m)))
     (Three (asciiOf (firstOf m)) (asciiOf (secondOf m)) (asciiOf (thirdOf m)))

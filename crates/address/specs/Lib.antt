@@ -1,3 +1,4 @@
 pub mod Letters
+pub mod Makers
 pub mod Names
 pub mod Keys

@@ -1,4 +1,5 @@
--- What a meter is called (EN 13757-4:2019, 12.5.5, 12.5.6; byte order 12.2): M, two bytes, and A, six bytes.
+-- What a meter, or whoever else sends, is called (EN 13757-4:2019, 12.5.5, 12.5.6; byte order 12.2): M, two bytes, and
+-- A, six bytes.
 --     twoBytes x       x as two bytes, least significant first
 --     twoAt s k        the number in two bytes of s from place k on, least significant first
 --     nameBytes n      M, then A as it stands

@@ -1,5 +1,5 @@
-// What a meter is called (EN 13757-4:2019, 12.5.5, 12.5.6; document 01, "Extended headers and names"): M, the number of
-// its maker, with the letters that it stands for, and A, six bytes.
+// What a meter, or whoever else sends, is called (EN 13757-4:2019, 12.5.5, 12.5.6; document 01, "Extended headers and
+// names"; document 02, 2/14): M, the number of its maker, with what it says, and A, six bytes.
 
 ghost use mathlib.Core.Path.{_≡_};
 ghost use mathlib.Core.List.{[], _∷_};
@@ -7,13 +7,26 @@ ghost use Prim.Native.Nat.{_+_, _<_};
 ghost use lib.ListN.{length};
 ghost use lib.Seq.{sets};
 ghost use Rattle.address.specs.Letters.{isLetter, lettersOf};
+ghost use Rattle.address.specs.Makers.{reachOf, makerOf};
 ghost use Rattle.address.specs.Names.{twoAt, nameBytes, nameAt};
 ghost use Rattle.address.specs.Keys.{fourAt, fourBytes, keyAt, keyBytes};
 
-// Three letters as ASCII bytes, 'A' to 'Z'.
-pub enum Maker {
+// Three letters as ASCII bytes, 'A' to 'Z', or none.
+pub enum Spelling {
     Three(u8, u8, u8),
     NoLetters,
+}
+
+// How far an address is unique: worldwide, or at least within radio range.
+pub enum Reach {
+    Hard,
+    Soft,
+}
+
+// What M says: letters or none, and hard or soft in both cases.
+pub struct Maker {
+    pub spelled: Spelling,
+    pub reach: Reach,
 }
 
 // A: six bytes as they are sent. No array, since an answer could not carry it.
@@ -32,22 +45,43 @@ fn is_letter(v: u16) -> bool
 }
 
 // The letters of M (12.5.5): five bits each, below the top bit.
-pub fn letters(m: u16) -> Maker
+fn letters(m: u16) -> Spelling
     ensures { λ r. ⌜ r ≡ lettersOf m ⌝ }
 {
     let first = m / 1024 % 32;
     let second = m / 32 % 32;
     let third = m % 32;
     if !is_letter(first) {
-        return Maker::NoLetters;
+        return Spelling::NoLetters;
     }
     if !is_letter(second) {
-        return Maker::NoLetters;
+        return Spelling::NoLetters;
     }
     if !is_letter(third) {
-        return Maker::NoLetters;
+        return Spelling::NoLetters;
     }
-    Maker::Three((first + 64) as u8, (second + 64) as u8, (third + 64) as u8)
+    Spelling::Three((first + 64) as u8, (second + 64) as u8, (third + 64) as u8)
+}
+
+// What the top bit of M says of the address (12.5.5).
+fn reach_of(m: u16) -> Reach
+    ensures { λ r. ⌜ r ≡ reachOf m ⌝ }
+{
+    if m / 32768 % 2 == 0 {
+        Reach::Hard
+    } else {
+        Reach::Soft
+    }
+}
+
+// The maker of M, or of a header's M2 (13.2.9).
+pub fn maker_of(m: u16) -> Maker
+    ensures { λ r. ⌜ r ≡ makerOf m ⌝ }
+{
+    Maker {
+        spelled: letters(m),
+        reach: reach_of(m),
+    }
 }
 
 // Numbers are sent with the least significant byte first (12.2).

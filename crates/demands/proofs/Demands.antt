@@ -1,17 +1,18 @@
 -- The customer's demands hold: each record of the page (specs/Demands), and the law that shows each of its fields.
 use mathlib.Core.Bool.{cond}
 use mathlib.Core.List.{List, _∷_, map}
-use mathlib.Core.Logic.{⊎-elim}
 use mathlib.Core.Path.{_≡_, refl, sym, _∙_, ap, subst}
 use Prim.Native.Nat.{ℕ, zero, suc, _<_}
 use lib.Dec.{ltb}
 use native.Mathlib.Omega.{arith}
-use lib.ListN.{length, take, set, replicate}
+use lib.ListN.{length, take, set, replicate, length-set}
 use lib.Seq.{take-all}
 use Rattle.answers.specs.declared.Refusal.{Refusal}
 use Rattle.answers.specs.Refusals.{numberOf, valueOf}
 use Rattle.line.specs.Codes.{codeOf}
 use Rattle.address.proofs.LettersLaws.{Spelled, lettersOf-three}
+use Rattle.address.proofs.MakerLaws.{makerOf-hard, makerOf-soft, letters-turned, reach-turned, makerOf-received}
+use Rattle.filter.specs.Listed.{verdictOf}
 use Rattle.header.proofs.HeaderTripLaws.{header-read-write, header-write-read}
 use Rattle.header.proofs.AccessLaws.{accessRow-accessOf}
 use Rattle.channels.proofs.ListingLaws.{getD-linesFrom-lt, getD-linesFrom-le}
@@ -52,7 +53,7 @@ use Rattle.airdamage.proofs.SeenLaws.{not-received}
 use Rattle.airdamage.proofs.ExactLaws.{chips-seen}
 use Rattle.proposals.proofs.Seventeen.{heard17, sent, other, all-bytes17, sent-is, other-is}
 use Rattle.kusikhut.specs.Told.{told, refusalPlace}
-use Rattle.demands.specs.Demands.{ChipNumbers, FrameNumbers, MeterNumbers, StoreNumbers, Plain, AcceptedRows, RefusedRows, StoreRows, InCodes, InHeaders, InBytes, InChips, Changes, StoreFiles, StoreMeters, StorePromise, CorrectionNumbers, CorrectionPromise, MendingNumbers, MendingPromise, SixteenPromise, DamagePromise}
+use Rattle.demands.specs.Demands.{ChipNumbers, FrameNumbers, MeterNumbers, StoreNumbers, Plain, AcceptedRows, RefusedRows, StoreRows, InCodes, InHeaders, InBytes, InChips, Changes, StoreFiles, StoreMeters, StorePromise, CorrectionNumbers, CorrectionPromise, MendingNumbers, MendingPromise, SixteenPromise, DamagePromise, SoftAddresses}
 use Rattle.demands.specs.Cases.{Spells}
 use Rattle.demands.specs.Touched.{Touched}
 use Rattle.demands.proofs.LineRuleLaws as line
@@ -70,6 +71,7 @@ use Rattle.demands.proofs.CorrectionPromiseLaws.{correcting-reads, corr
 use Rattle.demands.proofs.MendingRuleLaws as mending
 use Rattle.demands.proofs.MendingPromiseLaws.{one-wrong-byte, code-word-alone, written-taken, taken-written, mended-and-read, sixteen-and-read, taken-or-none}
 use Rattle.demands.proofs.TouchLaws.{change-touched}
+use Rattle.demands.proofs.SoftAddressLaws.{top-in-content, others-in-content, receiver-place, names-differ, listed-alone, entries-apart, keys-differ}
 
 pub chip-numbers : ChipNumbers
 chip-numbers =
@@ -147,6 +149,7 @@ plain =
       check-vector = refl;
       letters =
           λ m x y z. (λ e. spells (lettersOf-three m x y z .0 e), λ s. lettersOf-three m x y z .1 (spelled s));
+      hard-or-soft = λ m word. (makerOf-hard m word, makerOf-soft m word);
       access = accessRow-accessOf;
       channel-row = λ i. let r = rowOf-exact i in (r .centre, (r .spacing, r .tolerance));
       channels = channel.channels-listed;
@@ -240,8 +243,9 @@ accepted-rows =
       receiving = λ k place tried z n. refl;
       kinds = refl;
       reading-a-header = λ h n. refl;
-      letters = λ x y z. refl;
-      no-letters = refl;
+      letters = λ x y z r. refl;
+      no-letters = λ r. refl;
+      reaches = refl;
       filtering = (refl, refl);
       judging-a-proposal = λ d. refl;
     }
@@ -372,4 +376,18 @@ damage-promise =
       no-more = unseen-not-always;
       in-chips = chips-seen;
       not-received = not-received;
+    }
+
+pub soft-addresses : SoftAddresses
+soft-addresses =
+    record {
+      bit-turned = λ m. (letters-turned m, reach-turned m);
+      top-bit-received = makerOf-received;
+      of-the-receiver = receiver-place;
+      turned-in-a-content =
+          λ s bytes there. (top-in-content s there bytes, (length-set s 2 _, others-in-content s there));
+      two-names = names-differ;
+      one-listed = λ es n s sixteen few long. listed-alone verdictOf (meter-numbers .filtering) es n sixteen s long few;
+      own-entries = λ es n s sixteen. entries-apart verdictOf (meter-numbers .filtering) es n sixteen s;
+      two-in-the-store = keys-differ (store-files .as-received);
     }

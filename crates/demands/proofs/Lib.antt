@@ -5,6 +5,7 @@ pub mod SyncRuleLaws
 pub mod FrameRuleLaws
 pub mod RadioRuleLaws
 pub mod MeterRuleLaws
+pub mod SoftAddressLaws
 pub mod TouchLaws
 pub mod TripRuleLaws
 pub mod ChannelRuleLaws

@@ -15,8 +15,8 @@ use Rattle.frame.specs.declared.Format.{Format}
 use Rattle.frame.specs.Formats.{formOf, frameSize}
 use Rattle.blocks.specs.Spans.{cut, sizeOf}
 use Rattle.header.specs.AccessBits.{accessOf, accessRow}
-use Rattle.address.specs.declared.Maker.{Maker}
-use Rattle.address.specs.Letters.{lettersOf}
+use Rattle.address.specs.declared.Spelling.{Spelling}
+use Rattle.address.specs.Makers.{makerOf}
 
 -- L and the size of a frame whose content has n bytes
 abbrev sizes : Format → ℕ → List ℕ
@@ -27,9 +27,9 @@ abbrev checkRow : Updated → List ℕ
 checkRow (Updated.Accepted c) = c ∷ []
 checkRow (Updated.Refused r) = []
 
-abbrev letterRow : Maker → List ℕ
-letterRow (Maker.Three a b c) = a ∷ b ∷ c ∷ []
-letterRow Maker.NoLetters = []
+abbrev letterRow : Spelling → List ℕ
+letterRow (Spelling.Three a b c) = a ∷ b ∷ c ∷ []
+letterRow Spelling.NoLetters = []
 
 pub got : List (List ℕ)
 got =
@@ -43,7 +43,7 @@ got =
     ∷ sizes Format.B 125
     ∷ sizes Format.B 126
     ∷ (accessRow (accessOf 0x84) ∷ accessRow (accessOf 0x80) ∷ accessRow (accessOf 0x04) ∷ [])
-    ∷ letterRow (lettersOf 0x0443)
+    ∷ letterRow (makerOf 0x0443 .spelled)
     ∷ []
 
 pub want : List (List ℕ)

@@ -13,6 +13,7 @@ use mathlib.Core.Logic.{_↔_, _⊎_}
 use mathlib.Core.Path.{_≡_}
 use Prim.Native.Nat.{ℕ, _+_, _-_, _*_, _/_, _%_, _≤_, _<_}
 use denote.Ref.{RefT, now}
+use lib.Bits.{bitXor}
 use lib.Dec.{ltb}
 use lib.Ieee.Exact.{HasValue}
 use lib.ListN.{length, getD, take, drop, set, replicate}
@@ -62,11 +63,13 @@ use Rattle.airdamage.specs.ChipDamage.{ChipBurst, NeverSent, ChipsSeen}
 use Rattle.header.specs.declared.layout.Header.{Header}
 use Rattle.header.specs.declared.reading.HeaderReading.{HeaderReading}
 use Rattle.header.specs.AccessBits.{accessOf, accessRow}
-use Rattle.header.specs.Layout.{headerLength}
+use Rattle.header.specs.Layout.{addressed, headerLength}
 use Rattle.header.specs.HeaderReads.{fieldsOf, trimmed, headerReadingOf}
 use Rattle.header.specs.HeaderWrites.{headerWritingOf}
-use Rattle.address.specs.declared.Maker.{Maker}
-use Rattle.address.specs.Letters.{lettersOf}
+use Rattle.address.specs.declared.Spelling.{Spelling}
+use Rattle.address.specs.declared.Reach.{Reach}
+use Rattle.address.specs.Makers.{makerOf}
+use Rattle.address.specs.Names.{twoAt, nameOf}
 use Rattle.filter.specs.declared.Verdict.{Verdict}
 use Rattle.filter.specs.Listed.{verdictOf}
 use Rattle.modes.specs.declared.Mode.{Mode}
@@ -97,9 +100,10 @@ use Rattle.channels.specs.declared.plan.Centre.{Centre}
 use Rattle.channels.specs.Table21.{entryOf, channelsOf, quartersOf}
 use Rattle.channels.specs.Plan.{float, rowOf, centreOf}
 use Rattle.channels.specs.Listing.{bandOf, rowsOf, linesFrom, linesOf, lineAt}
-use Rattle.kusikhut.specs.Told.{Told, told, tells, toldUpdated, toldDecoded, toldWord, toldWritten, toldSize, toldFrame, toldSync, toldHeader, toldMaker, toldVerdict, toldValue, toldLookup, toldLine, toldCentre, toldReception, toldAnnounced, toldProposal, kindNumber}
+use Rattle.kusikhut.specs.Told.{Told, told, tells, toldUpdated, toldDecoded, toldWord, toldWritten, toldSize, toldFrame, toldSync, toldHeader, toldMaker, toldVerdict, toldValue, toldLookup, toldLine, toldCentre, toldReception, toldAnnounced, toldProposal, kindNumber, reachNumber}
 use Rattle.demands.specs.Rules.{Judged, JudgedLent}
-use Rattle.demands.specs.Cases.{Spells}
+use Rattle.demands.specs.Cases.{InUse, Spells}
+use Rattle.demands.specs.TopBit.{topTurned}
 use Rattle.demands.specs.Ladders as rule
 use Rattle.demands.specs.StoreAfter.{Puts, Restores}
 use Rattle.demands.specs.StoreLadders as store
@@ -304,8 +308,12 @@ pub record Plain : Type 0 where
   pub checking : (s : List ℕ) → checkOf s < 65536
   -- by crc::check, kusikhut_check
   pub check-vector : checkOf (0x31 ∷ 0x32 ∷ 0x33 ∷ 0x34 ∷ 0x35 ∷ 0x36 ∷ 0x37 ∷ 0x38 ∷ 0x39 ∷ []) ≡ 0xC2B7
-  -- by address::letters, kusikhut_letters
-  pub letters : (m x y z : ℕ) → (lettersOf m ≡ Maker.Three x y z) ↔ Spells m x y z
+  -- by address::maker_of, kusikhut_maker
+  pub letters : (m x y z : ℕ) → (makerOf m .spelled ≡ Spelling.Three x y z) ↔ Spells m x y z
+  -- by address::maker_of, kusikhut_maker
+  pub hard-or-soft :
+      (m : ℕ) → m < 65536
+      → ((makerOf m .reach ≡ Reach.Hard) ↔ (m < 32768)) × ((makerOf m .reach ≡ Reach.Soft) ↔ (32768 ≤ m))
   -- by header::announced, kusikhut_access
   pub access : (cc : ℕ) → accessRow (accessOf cc) ≡ 2 * (cc / 128 % 2) + cc / 4 % 2
   -- by channels::row_at, kusikhut_row
@@ -353,8 +361,13 @@ pub record AcceptedRows : Type 0 where
       map kindNumber (Kind.TWithA ∷ Kind.CWithA ∷ Kind.CWithB ∷ Kind.ManchesterWithA ∷ []) ≡ 0 ∷ 1 ∷ 2 ∷ 3 ∷ []
   pub reading-a-header :
       (h : Header) (n : ℕ) → toldHeader (HeaderReading.Accepted h n) ≡ told 0 (n ∷ fieldsOf h)
-  pub letters : (x y z : ℕ) → toldMaker (Maker.Three x y z) ≡ told 0 (1 ∷ x ∷ y ∷ z ∷ [])
-  pub no-letters : toldMaker Maker.NoLetters ≡ told 0 (0 ∷ 0 ∷ 0 ∷ 0 ∷ [])
+  pub letters :
+      (x y z : ℕ) (r : Reach)
+      → toldMaker (record { spelled = Spelling.Three x y z; reach = r }) ≡ told 0 (1 ∷ x ∷ y ∷ z ∷ reachNumber r ∷ [])
+  pub no-letters :
+      (r : Reach)
+      → toldMaker (record { spelled = Spelling.NoLetters; reach = r }) ≡ told 0 (0 ∷ 0 ∷ 0 ∷ 0 ∷ reachNumber r ∷ [])
+  pub reaches : map reachNumber (Reach.Hard ∷ Reach.Soft ∷ []) ≡ 0 ∷ 1 ∷ []
   pub filtering : (toldVerdict Verdict.Wanted ≡ told 0 (1 ∷ [])) × (toldVerdict Verdict.Unwanted ≡ told 0 (0 ∷ []))
   pub judging-a-proposal : (d : ℕ) → toldProposal (Proposal.Taken d) ≡ told 0 (d ∷ [])
 
@@ -493,6 +506,44 @@ pub record Changes : Type 0 where
       (checkPlaceOf f n k)
   pub nothing-else-mends :
       (c old new k : ℕ) (r : Updated) → c < 65536 → k ≤ 125 → Mends c old new k r → r ≡ updating c old new k
+
+-- Document 02, 2/14, soft addresses. Hard or soft is answered of every M, with letters and without: `hard-or-soft`
+-- above. M with its top bit turned has the same letters and the other reach. As received, low byte first, the top bit
+-- is the highest bit of the second byte of M: M stands at place 1 of a content, M2 at place 3 of a body whose header
+-- has it (`of-the-receiver`), and past the end of the bytes a byte counts as 0. One definition answers for both; a
+-- header without M2 shows M2 as 0.
+--
+-- The filter compares all eight bytes. So two contents that differ in that bit alone are two meters: they bear two
+-- names, one of them on the list does not make the other wanted, and where both are wanted each has an entry of its
+-- own. This is proved of every filter that keeps `filtering` of MeterNumbers (proofs/SoftAddressLaws). For the settings
+-- store they are two meters as well.
+pub record SoftAddresses : Type 0 where
+  pub bit-turned :
+      (m : ℕ)
+      → (makerOf (bitXor m 0x8000) .spelled ≡ makerOf m .spelled)
+      × (makerOf (bitXor m 0x8000) .reach ≡ makerOf m .reach → ⊥)
+  pub top-bit-received :
+      (s : List ℕ) → Bytes s → (k : ℕ) → (makerOf (twoAt s k) .reach ≡ Reach.Soft) ↔ (128 ≤ getD s (k + 1) 0)
+  pub of-the-receiver :
+      (s : List ℕ) (h : Header) (n : ℕ) → headerReadingOf s ≡ HeaderReading.Accepted h n → addressed (h .kind) ≡ true
+      → h .receiver .m ≡ twoAt s 3
+  pub turned-in-a-content :
+      (s : List ℕ) → Bytes s → 2 < length s
+      → (twoAt (topTurned s) 1 ≡ bitXor (twoAt s 1) 0x8000)
+      × ((length (topTurned s) ≡ length s)
+      × ((i : ℕ) → (i ≡ 2 → ⊥) → getD (topTurned s) i 0 ≡ getD s i 0))
+  pub two-names : (s : List ℕ) → 2 < length s → nameOf s ≡ nameOf (topTurned s) → ⊥
+  pub one-listed :
+      (es : List (List ℕ)) (n : ℕ) (s : List ℕ) → length es ≡ 16 → n ≤ 16 → 9 ≤ length s
+      → InUse es n (nameOf s) → (InUse es n (nameOf (topTurned s)) → ⊥)
+      → (verdictOf es n s ≡ Verdict.Wanted) × (verdictOf es n (topTurned s) ≡ Verdict.Unwanted)
+  pub own-entries :
+      (es : List (List ℕ)) (n : ℕ) (s : List ℕ) → length es ≡ 16
+      → verdictOf es n s ≡ Verdict.Wanted → verdictOf es n (topTurned s) ≡ Verdict.Wanted
+      → (i : ℕ) × ((j : ℕ) × ((i ≡ j → ⊥) × (((i < n) × (getD es i [] ≡ nameOf s))
+      × ((j < n) × (getD es j [] ≡ nameOf (topTurned s))))))
+  pub two-in-the-store :
+      (s : List ℕ) → Bytes s → 9 ≤ length s → keyAt (nameOf s) 0 ≡ keyAt (nameOf (topTurned s)) 0 → ⊥
 
 -- Document 02, 9/14, the store on disk. A file f is read as the store st exactly when st is valid (at most 64 meters,
 -- none of them twice, each number within its bytes) and f is what writing st gives, or its version 1 form, where the

@@ -1,5 +1,6 @@
 pub mod Rules
 pub mod Cases
+pub mod TopBit
 pub mod Ladders
 pub mod StoreCases
 pub mod StoreAfter

@@ -1,2 +1,3 @@
 pub mod AboveLaws
 pub mod CellarLaws
+pub mod NamedLaws

@@ -29,7 +29,7 @@ use Rattle.frame.specs.Reads.{takenOut, readingOf}
 use Rattle.frame.proofs.WorkedExamples.{content-C2}
 use Rattle.radio.specs.declared.Reception.{Reception}
 use Rattle.radio.specs.Receiving.{afterWords, bySize, frameAfter, byTail, bySync, receptionOf}
-use Rattle.address.specs.declared.Maker.{Maker}
+use Rattle.address.specs.Makers.{makerOf}
 use Rattle.header.specs.declared.layout.HeaderKind.{HeaderKind}
 use Rattle.header.specs.HeaderReads.{headerReadingOf}
 use Rattle.filter.specs.declared.Verdict.{Verdict}
@@ -58,13 +58,14 @@ receptions-worked = refl
 pub rows-worked :
     toldFrame (Frame.Accepted 20 15) ∷ toldFrame (Frame.Refused (Refusal.WrongCheck 2))
     ∷ toldSync (Sync.Found 4 5) ∷ toldSync (Sync.Refused (Refusal.NoSync 25))
-    ∷ toldMaker (Maker.Three 67 69 78) ∷ toldMaker Maker.NoLetters
+    ∷ toldMaker (makerOf 0x0CAE) ∷ toldMaker (makerOf 0x8CAE) ∷ toldMaker (makerOf 0) ∷ toldMaker (makerOf 0xFFFF)
     ∷ toldVerdict Verdict.Wanted ∷ toldVerdict Verdict.Unwanted
     ∷ toldLine (Line.Channel 6 0 169481250) ∷ toldLine Line.End
     ∷ []
     ≡ told 0 (20 ∷ 15 ∷ 0 ∷ []) ∷ told 3 (0 ∷ 0 ∷ 2 ∷ [])
     ∷ told 0 (4 ∷ 5 ∷ []) ∷ told 7 (0 ∷ 25 ∷ [])
-    ∷ told 0 (1 ∷ 67 ∷ 69 ∷ 78 ∷ []) ∷ told 0 (0 ∷ 0 ∷ 0 ∷ 0 ∷ [])
+    ∷ told 0 (1 ∷ 67 ∷ 69 ∷ 78 ∷ 0 ∷ []) ∷ told 0 (1 ∷ 67 ∷ 69 ∷ 78 ∷ 1 ∷ [])
+    ∷ told 0 (replicate 5 0) ∷ told 0 (0 ∷ 0 ∷ 0 ∷ 0 ∷ 1 ∷ [])
     ∷ told 0 (1 ∷ []) ∷ told 0 (0 ∷ [])
     ∷ told 0 (6 ∷ 0 ∷ 169481250 ∷ []) ∷ told 13 (0 ∷ 0 ∷ 0 ∷ [])
     ∷ []

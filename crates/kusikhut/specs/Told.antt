@@ -6,10 +6,12 @@
 --     tells f o          an outcome whose answer is told as f says
 --     toldRefusal w k r  a refusal in a row of w results: its number, its value at place k, zeros at all others
 --     toldUpdated, ..    for each type of answer: what its cases are told as, zero where they have no such result
+--     spellingRow l      letters as a part of a row
 --     kindNumber k       the kinds in the order of the header file
+--     reachNumber r      hard 0, soft 1
 --     refusalPlace n     where the row of a reception shows a refusal's value, by the refusal's number
 use mathlib.Core.Bool.{cond}
-use mathlib.Core.List.{List, [], _∷_}
+use mathlib.Core.List.{List, [], _∷_, _++_}
 use Prim.Native.Nat.{ℕ}
 use lib.Dec.{eqb}
 use lib.Ieee.{Float}
@@ -26,6 +28,8 @@ use Rattle.frame.specs.declared.Frame.{Frame}
 use Rattle.sync.specs.declared.Kind.{Kind}
 use Rattle.radio.specs.declared.Reception.{Reception}
 use Rattle.address.specs.declared.Maker.{Maker}
+use Rattle.address.specs.declared.Spelling.{Spelling}
+use Rattle.address.specs.declared.Reach.{Reach}
 use Rattle.header.specs.HeaderReads.{fieldsOf}
 use Rattle.header.specs.declared.reading.HeaderReading.{HeaderReading}
 use Rattle.filter.specs.declared.Verdict.{Verdict}
@@ -95,10 +99,18 @@ abbrev pub toldHeader : HeaderReading → Told ℕ
 toldHeader (HeaderReading.Accepted h n) = told 0 (n ∷ fieldsOf h)
 toldHeader (HeaderReading.Refused r) = toldRefusal 14 0 r
 
+abbrev pub reachNumber : Reach → ℕ
+reachNumber Reach.Hard = 0
+reachNumber Reach.Soft = 1
+
 -- whether there are letters, and the letters
+abbrev pub spellingRow : Spelling → List ℕ
+spellingRow (Spelling.Three a b c) = 1 ∷ a ∷ b ∷ c ∷ []
+spellingRow Spelling.NoLetters = replicate 4 0
+
+-- these, and whether the address is soft
 abbrev pub toldMaker : Maker → Told ℕ
-toldMaker (Maker.Three a b c) = told 0 (1 ∷ a ∷ b ∷ c ∷ [])
-toldMaker Maker.NoLetters = told 0 (replicate 4 0)
+toldMaker m = told 0 (spellingRow (m .spelled) ++ (reachNumber (m .reach) ∷ []))
 
 -- whether the meter is wanted
 abbrev pub toldVerdict : Verdict → Told ℕ

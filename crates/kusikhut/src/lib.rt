@@ -10,7 +10,7 @@ mod line_calls; // line_calls.rt: the line codes alone
 mod frame_calls; // frame_calls.rt: frames as bytes
 mod sync_calls; // sync_calls.rt: the sync search
 mod radio_calls; // radio_calls.rt: frames as chips
-mod address_calls; // address_calls.rt: the letters of a maker
+mod address_calls; // address_calls.rt: what M says, letters and hard or soft
 mod header_calls; // header_calls.rt: extended link headers, access
 mod filter_calls; // filter_calls.rt: the meter filter
 mod store_calls; // store_calls.rt: the settings store
@@ -19,6 +19,7 @@ mod mending_calls; // mending_calls.rt: proposals for received words
 mod channels_calls; // channels_calls.rt: mode N rows, centres and bands
 
 // What the crate entry calls by its name; every function is exported, named here or not.
+pub use address_calls::kusikhut_maker;
 pub use channels_calls::kusikhut_band_line;
 pub use channels_calls::kusikhut_centre;
 pub use crc_calls::kusikhut_update;

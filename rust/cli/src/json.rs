@@ -101,10 +101,25 @@ fn string(text: &str, out: &mut impl Write) -> io::Result<()> {
 
 #[cfg(test)]
 mod tests {
+    use super::*;
+
+    /// A part of an inner answer is the inner object's, also where there are no letters.
+    #[test]
+    fn inner_answers_have_their_own_below() {
+        let part = Fields::default().bytes("sender", &[0, 0x80]).value("letters", Value::None).bytes("id", &[0x12]);
+        let inner = Reply::accepted().below(Below::Part("from", part));
+        let mut out = Vec::new();
+        reply(&Reply::accepted().below(Below::Reply("reading", inner)), 1, &mut out).expect("memory takes all");
+        let accepted = r#""answer":0,"name":"accepted""#;
+        let from = r#"{"sender":"0080","letters":null,"id":"12"}"#;
+        let object = format!("{{\"line\":1,{accepted},\"reading\":{{{accepted},\"from\":{from}}}}}\n");
+        assert_eq!(String::from_utf8(out).expect("it is text"), object);
+    }
+
     #[test]
     fn strings_are_escaped() {
         let mut out = Vec::new();
-        super::string("a\"b\\c\nd\u{1}é", &mut out).expect("memory takes all");
+        string("a\"b\\c\nd\u{1}é", &mut out).expect("memory takes all");
         assert_eq!(String::from_utf8(out).expect("it is text"), "\"a\\\"b\\\\c\\nd\\u0001é\"");
     }
 }

@@ -2,7 +2,8 @@
 //! Commands on a store are taken from the arguments alone, so that lines from elsewhere touch no file.
 //!
 //! The program parses and prints; every decision is the proved library's. The program's own are words about an answer: how
-//! much is missing, which limit was passed, where two words differ (`mend`), the parts of a drawing.
+//! much is missing, which limit was passed, where two words differ (`mend`), how an address is printed, the three
+//! numbers in M (`letters`), the parts of a drawing.
 mod anatomy;
 mod args;
 mod commands;

@@ -21,7 +21,7 @@ mod store;
 mod store_file;
 mod sync;
 
-pub use address::letters;
+pub use address::{maker, Maker, Reach};
 pub use channels::{band_line, centre, row, BandLine, Row};
 pub use correction::{check_bytes, read_correction_header, CORRECTION_SIZE};
 pub use crc::{check, update};

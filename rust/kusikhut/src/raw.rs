@@ -95,7 +95,7 @@ extern "C" {
         r: *mut u64,
     ) -> u8;
     pub fn kusikhut_access(cc: u8) -> u8;
-    pub fn kusikhut_letters(m: u16, r: *mut u64) -> u8;
+    pub fn kusikhut_maker(m: u16, r: *mut u64) -> u8;
     pub fn kusikhut_filter(e: *const u8, count: usize, c: *const u8, cl: usize, r: *mut u64) -> u8;
     pub fn kusikhut_store_empty(s: *mut u8, sl: usize, r: *mut u64) -> u8;
     pub fn kusikhut_store_add(s: *mut u8, sl: usize, meter: *const u8, mode: u8, format: u8, r: *mut u64) -> u8;

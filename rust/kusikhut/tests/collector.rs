@@ -1,5 +1,5 @@
 //! The wrapper over the frames of EN 13757-4:2019, Annex C: round trips, and refusals that leave lent memory alone.
-use kusikhut::{Access, Code, Format, Header, Kind, Refusal};
+use kusikhut::{Access, Code, Format, Header, Kind, Maker, Reach, Refusal};
 use std::fmt::Debug;
 
 const CONTENT: [u8; 15] = [0x44, 0xAE, 0x0C, 0x78, 0x56, 0x34, 0x12, 0x01, 0x07, 0x78, 0x0B, 0x13, 0x43, 0x65, 0x87];
@@ -96,7 +96,9 @@ fn headers_and_names() {
     assert_eq!((Header::read(&out), out[17]), (Ok((header, 17)), UNTOUCHED));
     assert_eq!(refused(Header::read(&[])), "12 body-too-short");
     assert_eq!(refused(Header::read(&[0x86])), "11 unknown-ci");
-    assert_eq!((kusikhut::access(0x84), kusikhut::letters(0x0443)), (Access::Always, Some(*b"ABC")));
+    assert_eq!(kusikhut::access(0x84), Access::Always);
+    let soft = Maker { letters: Some(*b"ABC"), reach: Reach::Soft };
+    assert_eq!((kusikhut::maker(0x8443), kusikhut::maker(0x0443)), (soft, Maker { reach: Reach::Hard, ..soft }));
     let mut entries = [[0u8; 8]; 16];
     entries[15].copy_from_slice(&CONTENT[1..9]);
     assert_eq!(kusikhut::wanted(&entries, 16, &CONTENT), Ok(true));

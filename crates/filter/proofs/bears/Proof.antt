@@ -45,7 +45,7 @@ returns c =
     let s = now (at .before .args .content) in
     sym (sym (at .loop .inv .1)
     ∙ sameBytes-differ (at .before .args .t1) (nameOf s) i (omega (arith, eight at)) (omega (arith, eight at))
-    (λ e. c .if1 .taken (e ∙ getD-nameOf s i (omega arith))))
+    (λ e. omega (arith, c .if1 .taken, getD-nameOf s i (omega arith))))
 
 add-i : tie.Need-add-i Inv-loop μ-loop
 add-i c = search needs
@@ -57,10 +57,10 @@ loop-again : tie.Need-loop-again Inv-loop μ-loop
 loop-again c =
     let at = c .before .before .before in
     let i = at .loop .i in
-    let s = now (at .before .args .content) in
-    let agree = c .if1 .left ∙ sym (getD-nameOf s i (omega arith)) in (
+    let s = now (at .before .args .content) in (
       omega arith,
-      sameBytes-next (at .before .args .t1) (nameOf s) i (omega (arith, eight at)) (omega (arith, eight at)) agree
+      sameBytes-next (at .before .args .t1) (nameOf s) i (omega (arith, eight at)) (omega (arith, eight at))
+          (omega (arith, c .if1 .left, getD-nameOf s i (omega arith)))
           ∙ at .loop .inv .1,
     )
 

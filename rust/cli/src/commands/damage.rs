@@ -18,8 +18,8 @@ pub const COMMANDS: &[Command] = &[Command {
                of the frame came inverted=, the place of the first=, within= how many consecutive bits all of them lie, \
                how many bytes are differing=, and whether length-byte-changed=. promised=yes: it is proved that such \
                damage is refused, whatever stands behind the frame. promised=no: the promise of docs/DAMAGE.md does not \
-               cover it, which does not say that it is accepted. reading= is what reading CAME answers, and decides the \
-               exit status.",
+               cover it, which does not say that it is accepted. reading= is what reading CAME answers (help read), and \
+               decides the exit status.",
     example: "damage A 0F44AE0C7856341201074447780B134365871E6D 0F44AE0C7856341201074447780B134258E21E6D",
     run: damage,
 }];

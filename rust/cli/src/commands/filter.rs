@@ -10,8 +10,9 @@ pub const COMMANDS: &[Command] = &[Command {
     name: "filter",
     usage: "CONTENT [ENTRY ..] [count=ENTRIES]",
     does: "whether a content is of a wanted meter",
-    more: "ENTRY is M and A as received, 8 bytes; there are at most sixteen. count= takes only the first of \
-               them.",
+    more: "ENTRY is M and A as received, 8 bytes, as sender= shows them below an accepted frame; there are at most \
+               sixteen. count= takes only the first of them. All 8 bytes count: two names that differ in the top bit \
+               of M alone, one hard and one soft, are two meters.",
     example: "filter 44AE0C785634120107780B13436587 AE0C785634120107",
     run: filter,
 }];

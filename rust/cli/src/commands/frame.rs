@@ -1,4 +1,5 @@
 //! Frames as bytes, in formats A and B.
+use super::address::with_sender;
 use super::Command;
 use crate::args::{Args, Lent};
 use crate::fault::Fault;
@@ -11,7 +12,7 @@ pub const COMMANDS: &[Command] = &[
         name: "read",
         usage: "FORMAT BYTES [room=255] [fill=00] [show=lent]",
         does: "read a frame of format A or B",
-        more: "BYTES begin with the length byte; bytes behind the frame mean nothing.",
+        more: concat!("BYTES begin with the length byte; bytes behind the frame mean nothing. ", of_sender!()),
         example: "read A 0F44AE0C7856341201074447780B134365871E6D",
         run: read,
     },
@@ -55,7 +56,7 @@ fn read(mut a: Args) -> Result<Reply, Fault> {
     Ok(reading(format, &bytes, &mut lent))
 }
 
-/// What reading these bytes answers.
+/// What reading these bytes answers, with the frame's sender below.
 pub fn reading(format: Format, bytes: &[u8], lent: &mut Lent) -> Reply {
     let answer = format.read(bytes, &mut lent.bytes);
     let reply = Reply::of(answer, |f, frame| {
@@ -63,7 +64,8 @@ pub fn reading(format: Format, bytes: &[u8], lent: &mut Lent) -> Reply {
     });
     let reply = short_frame(reply, format, bytes);
     let needs = || format.read(bytes, &mut [0; MOST_CONTENT]).expect("this is room enough").n;
-    reply.if_number(numbers::NO_ROOM, |f| f.number("room", lent.room()).number("needs", needs())).with(|f| lent.all(f))
+    let reply = reply.if_number(numbers::NO_ROOM, |f| f.number("room", lent.room()).number("needs", needs()));
+    with_sender(reply, &lent.bytes).with(|f| lent.all(f))
 }
 
 /// Of a frame's bytes that end too early how many are missing, by the length byte; of a length byte that is not allowed

@@ -1,5 +1,5 @@
 //! Extended link headers, and the access that CC announces.
-use super::address::maker;
+use super::address::{maker, printed};
 use super::Command;
 use crate::args::Args;
 use crate::fault::Fault;
@@ -12,8 +12,10 @@ pub const COMMANDS: &[Command] = &[
         name: "header",
         usage: "BODY",
         does: "read an extended link header",
-        more: "BODY begins with CI 8C, 8D, 8E or 8F. Fields are shown as received, SN also as a number.",
-        example: "header 8C2027780B13",
+        more: "BODY begins with CI 8C, 8D, 8E or 8F. Fields are shown as received, SN also as a number. Behind M2 stand \
+               its letters= and address=, behind A2 its id=, version= and type=: they are the receiver's, and mean what \
+               help read says of a sender's.",
+        example: "header 8E2027AE8C785634120107",
         run: header,
     },
     Command {
@@ -68,7 +70,8 @@ fn control(fields: Fields, cc: u8, acc: u8) -> Fields {
 }
 
 fn named(fields: Fields, m2: u16, a2: [u8; 6]) -> Fields {
-    maker(fields.bytes("m2", &m2.to_le_bytes()), m2.to_le_bytes()).bytes("a2", &a2)
+    let received = m2.to_le_bytes();
+    printed(maker(fields.bytes("m2", &received), received).bytes("a2", &a2), a2)
 }
 
 fn session(fields: Fields, sn: u32, crc: [u8; 2]) -> Fields {

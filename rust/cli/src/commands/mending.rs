@@ -15,8 +15,8 @@ pub const COMMANDS: &[Command] = &[Command {
     does: "mend a frame by its correction bytes",
     more: "A proposal (frame and check bytes) is judged for RECEIVED (frame, header and check bytes), the \
                places where they differ are shown, and what is taken is read. Without proposal= one is made that \
-               mends up to 16 wrong bytes, or with upto=1 a single one; the length byte is not covered. Read \
-               docs/CORRECTION.md before use.",
+               mends up to 16 wrong bytes, or with upto=1 a single one; the length byte is not covered. What stands \
+               below reading= help read says. Read docs/CORRECTION.md before use.",
     example: "mend A 0F44AE0C7856341201074447780B134465871E6D2104\
                   84EA276958EC76A29678BF51DFED7661D46D36B8523BAE787CEFFD7B007EC9C6",
     run: mend,

@@ -1,6 +1,18 @@
 //! The commands, in a module for each crate that answers them: each parses its words, calls the library and tells the
 //! answer.
-mod address;
+
+/// What the help on a command that reads frames says of the line below an accepted one. A macro, since help texts are
+/// constants and are put together of nothing but literals.
+macro_rules! of_sender {
+    () => {
+        "Below an accepted frame stands who sent it: sender= is M and A as received, which filter and store take. \
+         letters= are the letters of M; letters=none: M stands for no letters (help letters says why). address=hard is \
+         unique worldwide, address=soft at least within radio range. id=, version= and type= are A as EN 13757-3 has \
+         it, the number highest byte first; none of it is judged. In JSON all of it is the object from."
+    };
+}
+
+pub mod address;
 mod channels;
 mod correction;
 mod crc;

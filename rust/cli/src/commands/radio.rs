@@ -1,4 +1,5 @@
 //! Frames as chips: receive and send.
+use super::address::with_sender;
 use super::frame::{content_length, MOST_CONTENT};
 use super::{with_chips, Command};
 use crate::anatomy::OnAir;
@@ -13,9 +14,12 @@ pub const COMMANDS: &[Command] = &[
         name: "receive",
         usage: "CHIPS [start=0] [allowance=NUMBER] [room=255] [fill=00] [show=lent]",
         does: "search a mode T or C frame in the chips and read it",
-        more: "The search begins at chip start= and tries all places behind it, or allowance= of them. kind= says mode and \
-               format, place= where the sync word stands, size= how many bytes the frame has; content= is what \
-               the meter says, n= bytes without length byte and checks.",
+        more: concat!(
+            "The search begins at chip start= and tries all places behind it, or allowance= of them. kind= says mode \
+             and format, place= where the sync word stands, size= how many bytes the frame has; content= is what the \
+             sender says, n= bytes without length byte and checks. ",
+            of_sender!()
+        ),
         example: "receive 543D5A971C9B25B44EC65A2DC34E58D59371C7134EC5A334B70B699B133726B1",
         run: receive,
     },
@@ -23,7 +27,7 @@ pub const COMMANDS: &[Command] = &[
         name: "manchester",
         usage: "CHIPS [start=0] [room=255] [fill=00] [show=lent]",
         does: "read the Manchester frame that starts at a chip",
-        more: "As in mode S, whose sync word is not looked for: start= names the chip.",
+        more: concat!("As in mode S, whose sync word is not looked for: start= names the chip. ", of_sender!()),
         example: "manchester AA559A9A6656AA5A956A9996A59AA9A6AAA9AA959A9A9A95956AAA65A9A59AA596996A95A9569659",
         run: manchester,
     },
@@ -103,8 +107,9 @@ impl Asked {
         }
     }
 
-    /// What receiving answers. Of chips that end too early it is said how many are missing, of a length byte that is not
-    /// allowed which it is, and where the room was too small, how much is needed, by the same call with enough.
+    /// What receiving answers, with the frame's sender below. Of chips that end too early it is said how many are
+    /// missing, of a length byte that is not allowed which it is, and where the room was too small, how much is needed,
+    /// by the same call with enough.
     pub fn answer(&mut self) -> Reply {
         let mut out = std::mem::take(&mut self.lent.bytes);
         let answer = self.call(&mut out);
@@ -116,7 +121,8 @@ impl Asked {
         let reply = reply.if_number(numbers::LENGTH_NOT_ALLOWED, |f| {
             f.number("l", self.on_air().length_byte().map_or(0, u64::from))
         });
-        with_chips(reply, &self.chips, self.start).with(|f| self.lent.all(f))
+        let reply = with_sender(with_chips(reply, &self.chips, self.start), &self.lent.bytes);
+        reply.with(|f| self.lent.all(f))
     }
 }
 

@@ -1,6 +1,6 @@
 //! The settings store in a file: `store FILE COMMAND ..`. Each command opens the file, makes one call and ends; what it
 //! prints is on the disk before.
-use super::address::maker;
+use super::address;
 use super::frame::FORMATS;
 use super::Entry;
 use crate::args::Args;
@@ -35,7 +35,7 @@ const COMMANDS: [StoreCommand; 9] = [
         name: "show",
         usage: "",
         does: "all that a store holds",
-        more: "A line for each meter.",
+        more: "A line for each meter, with what its name says (help read).",
         example: "show",
         run: show,
     },
@@ -131,7 +131,8 @@ fn usage(command: &StoreCommand) -> String {
 /// What `help` says of them all.
 pub const ABOUT: &str = "Commands on a store work on a file and are taken from the arguments alone. FILE is a collector's own \
                          store and no backup; a number is saved in it before it is printed, and programs that change it \
-                         wait for each other. METER is M and A as received, 8 bytes.";
+                         wait for each other. METER is M and A as received, 8 bytes, as sender= shows them below an \
+                         accepted frame.";
 
 pub fn entries() -> impl Iterator<Item = Entry> {
     COMMANDS.into_iter().map(|c| Entry {
@@ -250,7 +251,7 @@ fn row_of(meter: &Meter) -> Fields {
 }
 
 fn tell_meter(fields: Fields, meter: &Meter) -> Fields {
-    let fields = maker(fields, [meter.address[0], meter.address[1]]).word("mode", mode_name(meter.mode));
+    let fields = address::name(fields, meter.address).word("mode", mode_name(meter.mode));
     let fields = fields.word("format", format_name(meter.format)).number("number", meter.number.into());
     fields.is("unsure", meter.unsure)
 }

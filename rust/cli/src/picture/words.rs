@@ -1,6 +1,7 @@
 //! The words of a drawing: the answer, what it means for this frame, and the names of its parts.
 use super::parts::Field;
 use crate::anatomy::Cell;
+use crate::commands::address::said_by;
 use crate::notation::counted;
 use crate::numbers;
 use crate::reply::{Reply, Value};
@@ -104,11 +105,11 @@ pub fn name_of(field: Field, cells: &[Cell]) -> String {
         (Field::L, [Cell::Byte(l)]) => format!("L: {l}"),
         (Field::L, _) => "L".into(),
         (Field::C, _) => "C".into(),
-        (Field::M, &[Cell::Byte(low), Cell::Byte(high)]) => format!("M: {}", letters(low, high)),
+        (Field::M, &[Cell::Byte(low), Cell::Byte(high)]) => format!("M: {}", maker(low, high)),
         (Field::M, _) => "M".into(),
         (Field::A, _) => "A: address".into(),
         (Field::Ci, _) => "CI".into(),
-        (Field::Extended("M2"), &[Cell::Byte(low), Cell::Byte(high)]) => format!("M2: {}", letters(low, high)),
+        (Field::Extended("M2"), &[Cell::Byte(low), Cell::Byte(high)]) => format!("M2: {}", maker(low, high)),
         (Field::Extended(name), _) => name.into(),
         (Field::Data, _) => "data".into(),
         (Field::Check, _) => "check".into(),
@@ -116,7 +117,24 @@ pub fn name_of(field: Field, cells: &[Cell]) -> String {
     }
 }
 
-fn letters(low: u8, high: u8) -> String {
-    let letters = kusikhut::letters(u16::from_le_bytes([low, high]));
-    letters.map_or("no letters".into(), |letters| String::from_utf8_lossy(&letters).into_owned())
+/// The letters of M, and whether its address is hard or soft.
+fn maker(low: u8, high: u8) -> String {
+    let (letters, reach) = said_by([low, high]);
+    format!("{}, {reach}", letters.as_deref().unwrap_or("no letters"))
+}
+
+#[cfg(test)]
+mod tests {
+    use super::*;
+
+    #[test]
+    fn makers_are_named() {
+        let cells = |m: u16| u16::to_le_bytes(m).map(Cell::Byte);
+        let named = |field, m| name_of(field, &cells(m));
+        assert_eq!(named(Field::M, 0x0CAE), "M: CEN, hard");
+        assert_eq!(named(Field::M, 0x8CAE), "M: CEN, soft");
+        assert_eq!(named(Field::Extended("M2"), 0x0000), "M2: no letters, hard");
+        assert_eq!(named(Field::Extended("M2"), 0xFFFF), "M2: no letters, soft");
+        assert_eq!(name_of(Field::M, &[Cell::Byte(0xAE), Cell::Missing]), "M");
+    }
 }

@@ -193,8 +193,8 @@ impl Implementation for Proved {
         Answer::accepted(&[unsafe { raw::kusikhut_access(cc) }.into()])
     }
 
-    fn letters(&self, m: u16) -> Answer {
-        told(4, |r| unsafe { raw::kusikhut_letters(m, r) })
+    fn maker(&self, m: u16) -> Answer {
+        told(5, |r| unsafe { raw::kusikhut_maker(m, r) })
     }
 
     fn filter(&self, entries: &Entries, count: usize, content: &[u8]) -> Answer {

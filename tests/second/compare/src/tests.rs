@@ -42,7 +42,7 @@ fn every_field_is_compared() {
             }
         }
     }
-    assert_eq!(fields, 313);
+    assert_eq!(fields, 314);
 }
 
 /// A field that a call does not write, and one too many or too few.

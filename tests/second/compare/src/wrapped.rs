@@ -214,9 +214,14 @@ impl Implementation for Wrapped {
         }])
     }
 
-    fn letters(&self, m: u16) -> Answer {
-        let row = library::letters(m).map(|[a, b, c]| [1, a.into(), b.into(), c.into()]);
-        Answer::accepted(&row.unwrap_or([0; 4]))
+    fn maker(&self, m: u16) -> Answer {
+        let maker = library::maker(m);
+        let soft = match maker.reach {
+            library::Reach::Hard => 0,
+            library::Reach::Soft => 1,
+        };
+        let [a, b, c] = maker.letters.unwrap_or_default().map(u64::from);
+        Answer::accepted(&[maker.letters.is_some().into(), a, b, c, soft])
     }
 
     fn filter(&self, entries: &Entries, count: usize, content: &[u8]) -> Answer {

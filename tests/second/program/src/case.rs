@@ -38,7 +38,7 @@ pub enum Operation {
     HeaderRead,
     HeaderWrite,
     Access,
-    Letters,
+    Maker,
     Filter,
     ChannelRow,
     ChannelCentre,
@@ -101,7 +101,7 @@ impl Operation {
         Operation::HeaderRead,
         Operation::HeaderWrite,
         Operation::Access,
-        Operation::Letters,
+        Operation::Maker,
         Operation::Filter,
         Operation::ChannelRow,
         Operation::ChannelCentre,
@@ -156,7 +156,7 @@ impl Operation {
             Operation::HeaderRead => &[0, 11, 12],
             Operation::HeaderWrite => &[0, 4],
             Operation::Access => &[0],
-            Operation::Letters => &[0],
+            Operation::Maker => &[0],
             Operation::Filter => &[0, 5, 10],
             Operation::ChannelRow => &[0],
             Operation::ChannelCentre => &[0, 13],
@@ -199,7 +199,7 @@ impl Operation {
             Operation::HeaderRead => "header_read",
             Operation::HeaderWrite => "header_write",
             Operation::Access => "access",
-            Operation::Letters => "letters",
+            Operation::Maker => "maker",
             Operation::Filter => "filter",
             Operation::ChannelRow => "channel_row",
             Operation::ChannelCentre => "channel_centre",
@@ -276,7 +276,7 @@ impl Operation {
                 ("out", BYTES),
             ],
             Operation::Access => &[("cc", BYTE)],
-            Operation::Letters => &[("m", U16)],
+            Operation::Maker => &[("m", U16)],
             Operation::Filter => &[
                 ("entries", Shape::Exactly(128)),
                 ("count", SIZE),
@@ -599,7 +599,7 @@ impl Case {
             Operation::HeaderRead => with.header_read(self.bytes("body")),
             Operation::HeaderWrite => with.header_write(&self.header(), out),
             Operation::Access => with.access(self.byte("cc")),
-            Operation::Letters => with.letters(self.number("m") as u16),
+            Operation::Maker => with.maker(self.number("m") as u16),
             Operation::Filter => {
                 with.filter(&self.entries(), self.size("count"), self.bytes("content"))
             }

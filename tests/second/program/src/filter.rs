@@ -2,7 +2,9 @@
 
 use crate::answer::Refusal;
 
-/// Entries of M (2) and A (6), as they stand in a content.
+/// Entries of M (2) and A (6), as they stand in a content. The top bit of M is one of
+/// their 64 bits: two that differ there alone, one hard and one soft, are two meters
+/// (2/14).
 pub type Entries = [[u8; 8]; 16];
 
 /// Whether a content is wanted: exactly when its bytes 1 to 8 equal an entry in

@@ -1,5 +1,6 @@
-//! The fixed extended link headers (13.2.1 to 13.2.5), access (12.6.3) and the
-//! letters of a manufacturer (12.5.5).
+//! The fixed extended link headers (13.2.1 to 13.2.5), access (12.6.3), and what M
+//! says: the letters of a manufacturer, and whether an address is hard or soft
+//! (12.5.5, 2/14).
 
 use crate::answer::Refusal;
 use crate::chips::put;
@@ -135,17 +136,37 @@ pub fn access(cc: u8) -> Access {
     }
 }
 
-/// The three letters of M as ASCII, or no letters.
+/// How far an address is unique. The numbers are those of the top bit of M.
+#[derive(Clone, Copy, Debug, PartialEq, Eq)]
+pub enum Reach {
+    /// Worldwide: the maker of the meter has fixed it.
+    Hard = 0,
+    /// Within radio range only: mostly given when the meter is installed.
+    Soft = 1,
+}
+
+/// What M says of an address.
+#[derive(Clone, Copy, Debug, PartialEq, Eq)]
+pub struct Maker {
+    /// The three letters in ASCII, or no letters.
+    pub letters: Option<[u8; 3]>,
+    /// Told in both cases: 12.5.5 does not ask for letters here.
+    pub reach: Reach,
+}
+
+/// What M says, or M2: 13.2.9 sends to 12.5.5 for it.
 ///
-/// 12.5.5 forms the letters from the lower 15 bits; the top bit only says how
+/// 12.5.5 forms the letters from the lower 15 bits, and lets the top bit say how
 /// far the address is unique. 01 divides the whole of M, so that a set top bit
-/// would leave no letters; it is no house rule, so the standard decides.
-pub fn letters(m: u16) -> Option<[u8; 3]> {
-    let lower = m % 32768;
+/// would leave no letters; 2/14 calls that too simple.
+pub fn maker(m: u16) -> Maker {
+    let (top, lower) = (m / 32768, m % 32768);
     let numbers = [lower / 1024, lower / 32 % 32, lower % 32];
-    if numbers.iter().all(|number| (1..=26).contains(number)) {
+    let letters = if numbers.iter().all(|number| (1..=26).contains(number)) {
         Some(numbers.map(|number| b'A' + number as u8 - 1))
     } else {
         None
-    }
+    };
+    let reach = if top == 0 { Reach::Hard } else { Reach::Soft };
+    Maker { letters, reach }
 }

@@ -78,8 +78,10 @@ pub trait Implementation {
     /// Row: 0 none, 1 none for now, 2 limited, 3 unlimited.
     fn access(&self, cc: u8) -> Answer;
 
-    /// Row: 1 and the three letters in ASCII; all zero for "no letters".
-    fn letters(&self, m: u16) -> Answer;
+    /// What M says, or M2. The number is always 0. Row: 1 and the three letters in
+    /// ASCII, or four zeros where M has no letters; then 1 if the address is soft, 0
+    /// if it is hard.
+    fn maker(&self, m: u16) -> Answer;
 
     /// Refusals 10, 5. Row: 1 wanted, 0 not.
     fn filter(&self, entries: &Entries, count: usize, content: &[u8]) -> Answer;
@@ -311,14 +313,18 @@ impl Implementation for Second {
         Answer::accepted(&[headers::access(cc) as u64])
     }
 
-    fn letters(&self, m: u16) -> Answer {
-        match headers::letters(m) {
-            Some(letters) => {
-                Answer::accepted(&[1, letters[0] as u64, letters[1] as u64, letters[2] as u64])
+    fn maker(&self, m: u16) -> Answer {
+        let maker = headers::maker(m);
+        let mut row = [0; 5];
+        // No letters is an answer of its own, not a refusal (01).
+        if let Some(letters) = maker.letters {
+            row[0] = 1;
+            for (field, letter) in row[1..4].iter_mut().zip(letters) {
+                *field = letter as u64;
             }
-            // An answer of its own, not a refusal (01).
-            None => Answer::accepted(&[0; 4]),
         }
+        row[4] = maker.reach as u64;
+        Answer::accepted(&row)
     }
 
     fn filter(&self, entries: &Entries, count: usize, content: &[u8]) -> Answer {

@@ -1,6 +1,8 @@
 //! A small seeded generator of numbers (xorshift), so that every run of the
 //! comparison with the same seed meets the same cases.
 
+/// A copy makes the same numbers again, and leaves this one where it is.
+#[derive(Clone)]
 pub struct Random {
     state: u64,
 }

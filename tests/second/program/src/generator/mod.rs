@@ -8,6 +8,7 @@ mod correction;
 mod correction_inputs;
 mod decoding;
 mod decoding_inputs;
+mod filter_inputs;
 mod mending;
 mod mending_inputs;
 mod names;
@@ -24,6 +25,7 @@ use crate::random::Random;
 
 pub use correction_inputs::correction_inputs;
 pub use decoding_inputs::decoding_inputs;
+pub use filter_inputs::filter_inputs;
 pub use mending_inputs::mending_inputs;
 pub use store_inputs::store_inputs;
 
@@ -92,7 +94,7 @@ pub fn case(random: &mut Random, operation: Operation) -> Case {
         Operation::HeaderRead => names::header_read(random),
         Operation::HeaderWrite => names::header_write(random),
         Operation::Access => vec![number(random.byte())],
-        Operation::Letters => names::letters(random),
+        Operation::Maker => names::maker(random),
         Operation::Filter => names::filter(random),
         Operation::ChannelRow => vec![names::index(random)],
         Operation::ChannelCentre => vec![names::index(random), names::channel(random)],
@@ -113,17 +115,17 @@ pub fn case(random: &mut Random, operation: Operation) -> Case {
     Case::new(operation, arguments)
 }
 
-/// Every input of the operations that have few: access, letters, frame sizes,
+/// Every input of the operations that have few: access, what M says, frame sizes,
 /// all indices and channels a little beyond Table 21, and the lists of all bands
-/// a little beyond the longest, for every letter; and the small inputs of
-/// correction bytes and of mending, by one proposer and by the other.
+/// a little beyond the longest, for every letter; and the small inputs of the
+/// filter, of correction bytes and of mending, by one proposer and by the other.
 pub fn small_inputs() -> Vec<Case> {
     let mut cases = Vec::new();
     for cc in 0..=0xFFu8 {
         cases.push(Case::new(Operation::Access, vec![number(cc)]));
     }
     for m in 0..=0xFFFFu16 {
-        cases.push(Case::new(Operation::Letters, vec![number(m)]));
+        cases.push(Case::new(Operation::Maker, vec![number(m)]));
     }
     for format in Format::ALL {
         for length in 0..=0xFFu8 {
@@ -148,6 +150,7 @@ pub fn small_inputs() -> Vec<Case> {
             }
         }
     }
+    cases.extend(filter_inputs());
     cases.extend(correction_inputs());
     cases.extend(mending_inputs());
     cases.extend(decoding_inputs());

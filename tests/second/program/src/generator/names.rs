@@ -1,4 +1,4 @@
-//! Cases of headers, letters, the filter, channels and bands.
+//! Cases of headers, of what M says, the filter, channels and bands.
 
 use super::{number, output_for, HUGE};
 use crate::case::Argument;
@@ -41,7 +41,7 @@ pub fn header_write(random: &mut Random) -> Vec<Argument> {
     ]
 }
 
-pub fn letters(random: &mut Random) -> Vec<Argument> {
+pub fn maker(random: &mut Random) -> Vec<Argument> {
     // Five-bit values about the edges of 1 to 26, with and without the top bit.
     let five_bits = [0, 1, 2, 25, 26, 27, 31];
     let m = if random.once_in(3) {
@@ -55,7 +55,7 @@ pub fn letters(random: &mut Random) -> Vec<Argument> {
 }
 
 pub fn filter(random: &mut Random) -> Vec<Argument> {
-    let entries = random.bytes(128);
+    let mut entries: Vec<Vec<u8>> = (0..16).map(|_| random.bytes(8)).collect();
     let count = match random.below(10) {
         0 => 0,
         1 => 15,
@@ -71,7 +71,7 @@ pub fn filter(random: &mut Random) -> Vec<Argument> {
         _ => random.below(16),
     };
     let mut content = vec![random.byte()];
-    content.extend(&entries[8 * chosen..8 * chosen + 8]);
+    content.extend(&entries[chosen]);
     let behind = random.below(60);
     content.extend(random.bytes(behind));
     match random.below(10) {
@@ -83,9 +83,39 @@ pub fn filter(random: &mut Random) -> Vec<Argument> {
         2 => content.truncate(random.below(12)),
         3 => content.truncate(8),
         4 => content.truncate(9),
+        5 | 6 => {
+            // What a copy draws moves none of the cases that follow.
+            let mut copy = random.clone();
+            turn_top_bit(&mut content[1..9]);
+            // The entry that now differs in this bit alone, and perhaps an equal one.
+            let almost = place_for(&mut copy, count);
+            entries.swap(chosen, almost);
+            let equal = place_for(&mut copy, count);
+            if equal != almost && copy.once_in(2) {
+                entries[equal] = content[1..9].to_vec();
+            }
+        }
         _ => {}
     }
-    vec![entries.into(), count.into(), content.into()]
+    vec![entries.concat().into(), count.into(), content.into()]
+}
+
+/// Turns the top bit of M in the eight bytes of M and A, and so a hard address into
+/// a soft one or back (2/14). M has its least significant byte first.
+pub fn turn_top_bit(meter: &mut [u8]) {
+    meter[1] ^= 0x80;
+}
+
+/// A place among the entries: the first, the last in use, the one behind it, or any
+/// in use.
+fn place_for(random: &mut Random, count: usize) -> usize {
+    let count = count.min(16);
+    match random.below(5) {
+        0 => 0,
+        1 => count.saturating_sub(1),
+        2 => count.min(15),
+        _ => random.below(count),
+    }
 }
 
 pub fn index(random: &mut Random) -> Argument {

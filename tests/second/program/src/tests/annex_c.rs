@@ -6,7 +6,7 @@ use super::{buffer, bytes, list};
 use crate::check::check;
 use crate::chips::{encode_list, list_of, Code};
 use crate::frames::{content_of, frame_of, Format};
-use crate::headers::{access, letters, read, Access, HeaderKind};
+use crate::headers::{access, maker, read, Access, HeaderKind, Maker, Reach};
 use crate::radio::{receive, receive_manchester, send};
 use crate::sync::Kind;
 
@@ -183,7 +183,15 @@ fn c3_header_and_names() {
         (HeaderKind::Short, 0x20, 0x27)
     );
     assert_eq!(access(header.cc), Access::None);
-    assert_eq!(letters(0x0CAE), Some(*b"CEN"));
+    // M is the third and fourth byte of the block (12.5.5), of which L is the first.
+    let content = content_c3();
+    let m = u16::from_le_bytes([content[1], content[2]]);
+    assert_eq!(m, 0x0CAE);
+    let cen = Maker {
+        letters: Some(*b"CEN"),
+        reach: Reach::Hard,
+    };
+    assert_eq!(maker(m), cen);
 }
 
 /// Not printed in Annex C: derived from it with the same rules.

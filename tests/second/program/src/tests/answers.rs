@@ -313,8 +313,10 @@ fn headers_and_names() {
     is(Second.header_write(&header, &mut out), 0, &[11]);
     assert_eq!(out, [0x8E, 1, 2, 0x43, 0x04, 3, 4, 5, 6, 7, 8, 0xEE]);
     is(Second.access(0x84), 0, &[3]);
-    is(Second.letters(0x8443), 0, &[1, 0x41, 0x42, 0x43]);
-    is(Second.letters(0), 0, &[0; 4]);
+    is(Second.maker(0x0443), 0, &[1, 0x41, 0x42, 0x43, 0]);
+    is(Second.maker(0x8443), 0, &[1, 0x41, 0x42, 0x43, 1]);
+    is(Second.maker(0), 0, &[0; 5]);
+    is(Second.maker(0x8000), 0, &[0, 0, 0, 0, 1]);
     is(Second.filter(&[[0; 8]; 16], 1, &[0; 9]), 0, &[1]);
     is(Second.filter(&[[0; 8]; 16], 0, &[0; 9]), 0, &[0]);
     is(Second.filter(&[[1; 8]; 16], 17, &[0; 9]), 10, &[0]);

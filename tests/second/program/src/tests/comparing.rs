@@ -14,7 +14,9 @@ use crate::chips::{decode_list, list_of, number_of, Code, THREE_OF_SIX};
 use crate::compare::{compare, compare_cases, compare_outcomes, compare_small_inputs};
 use crate::filter::Entries;
 use crate::frames::Format;
-use crate::generator::{case, one_of_each, small_inputs, store_inputs, words_cases, Cases};
+use crate::generator::{
+    case, filter_inputs, one_of_each, small_inputs, store_inputs, words_cases, Cases,
+};
 use crate::headers::Header;
 use crate::implementation::{CorrectionCalls, Implementation, MendingCalls, Second, StoreCalls};
 use crate::random::Random;
@@ -46,7 +48,8 @@ fn second_program_agrees_with_itself_and_meets_every_number() {
 fn small_inputs_are_all_there() {
     let stats = compare_small_inputs(&Second, &Second).unwrap();
     assert_eq!(stats.count(Operation::Access, 0), 256);
-    assert_eq!(stats.count(Operation::Letters, 0), 65_536);
+    assert_eq!(stats.count(Operation::Maker, 0), 65_536);
+    assert_eq!(stats.count(Operation::Filter, 0), 8704 + 240 + 585);
     assert_eq!(stats.count(Operation::FrameSize, 0), 246 + 242);
     assert_eq!(stats.count(Operation::ChannelCentre, 0), 103);
     assert_eq!(stats.count(Operation::ChannelRow, 0), 21);
@@ -110,6 +113,8 @@ fn a_line_of_text_is_read_strictly() {
         "frame_size format=2 length=0",
         "decode code=3 chips= start=0 n=0 out=",
         "channel_row index=10000000000000000",
+        "letters m=443",
+        "maker m=10000",
         "filter entries=00 count=0 content=",
         "store_issue store= meter=00",
         "store_hear store= meter=0000000000000000 number=100000000",
@@ -262,6 +267,54 @@ fn edges_of_the_outputs_are_met() {
     }
 }
 
+/// First, middle or last of the entries in use: 0, 1 or 2.
+fn part(place: usize, count: usize) -> usize {
+    match place {
+        0 => 0,
+        place if place + 1 == count => 2,
+        _ => 1,
+    }
+}
+
+/// Whether the content is soft; the part in which an entry stands that differs in the
+/// top bit of M alone; the part of the equal one, if there is one. None for all other
+/// cases of the filter.
+fn hard_and_soft(case: &Case) -> Option<(bool, usize, Option<usize>)> {
+    let count = case.number("count") as usize;
+    let heard = case.bytes("content").get(1..9)?;
+    if !(3..=16).contains(&count) {
+        return None;
+    }
+    let mut in_use = case.bytes("entries").chunks(8).take(count);
+    let equal = in_use.clone().position(|entry| entry == heard);
+    let almost = in_use.position(|entry| entry != heard && alike(entry, heard))?;
+    let soft = heard[1] >= 0x80;
+    let equal = equal.map(|place| part(place, count));
+    Some((soft, part(almost, count), equal))
+}
+
+/// Both ways, with either entry in the first place in use, in the middle and in the
+/// last, and without the equal one: seeded, and in the small inputs.
+#[test]
+fn filters_meet_hard_beside_soft() {
+    let mut random = Random::new(77);
+    let seeded = (0..10_000).map(|_| case(&mut random, Operation::Filter));
+    for cases in [seeded.collect(), filter_inputs()] {
+        let met: Vec<_> = cases.iter().filter_map(hard_and_soft).collect();
+        for soft in [false, true] {
+            for almost in 0..3 {
+                for equal in [None, Some(0), Some(1), Some(2)] {
+                    let one = (soft, almost, equal);
+                    let count = met.iter().filter(|&&other| other == one).count();
+                    // There is but one first place, and one last.
+                    let free = equal != Some(almost) || almost == 1;
+                    assert!(!free || count >= 10, "{one:?} {count}");
+                }
+            }
+        }
+    }
+}
+
 // -------------------------------------------------------- wrong on purpose
 
 /// Ways to be wrong: the errors that document 01 tells of, and some that are
@@ -307,8 +360,20 @@ pub enum Flaw {
     SnHighestFirst,
     /// No letters with the top bit set.
     LettersByThePage,
+    /// Soft only where there are letters.
+    SoftWithLettersOnly,
+    /// Hard or soft by bit 7 of M: the top bit of its first byte.
+    SoftByTheFirstByte,
+    /// Hard and soft exchanged.
+    HardAndSoftExchanged,
+    /// No address is soft.
+    AlwaysHard,
     /// The entry behind the count is looked at.
     EntryBehindTheCount,
+    /// M is compared without its top bit.
+    FilterWithoutTopBit,
+    /// The first entry that is equal but for the top bit of M decides alone.
+    FirstAlikeDecides,
     /// Tolerance of row 7 as of rows 1, 5 and 10.
     ToleranceOfRow7,
     /// One channel too many.
@@ -544,11 +609,18 @@ impl Implementation for Broken {
         answer
     }
 
-    fn letters(&self, m: u16) -> Answer {
-        if self.has(Flaw::LettersByThePage) && m >= 0x8000 {
-            return Answer::accepted(&[0; 4]);
+    fn maker(&self, m: u16) -> Answer {
+        let mut answer = Second.maker(m);
+        let row = &mut answer.row;
+        match self.0 {
+            Flaw::LettersByThePage if m >= 0x8000 => row[..4].fill(0),
+            Flaw::SoftWithLettersOnly => row[4] *= row[0],
+            Flaw::SoftByTheFirstByte => row[4] = (m.to_le_bytes()[0] >> 7) as u64,
+            Flaw::HardAndSoftExchanged => row[4] = 1 - row[4],
+            Flaw::AlwaysHard => row[4] = 0,
+            _ => {}
         }
-        Second.letters(m)
+        answer
     }
 
     fn filter(&self, entries: &Entries, count: usize, content: &[u8]) -> Answer {
@@ -556,7 +628,18 @@ impl Implementation for Broken {
             0..=15 if self.has(Flaw::EntryBehindTheCount) => count + 1,
             _ => count,
         };
-        Second.filter(entries, count, content)
+        let mut answer = Second.filter(entries, count, content);
+        if answer.number == 0 {
+            let mut in_use = entries[..count].iter();
+            if self.has(Flaw::FilterWithoutTopBit) {
+                let any = in_use.any(|entry| alike(entry, &content[1..9]));
+                answer.row[0] = any as u64;
+            } else if self.has(Flaw::FirstAlikeDecides) {
+                let first = in_use.find(|entry| alike(*entry, &content[1..9]));
+                answer.row[0] = first.is_some_and(|entry| entry[..] == content[1..9]) as u64;
+            }
+        }
+        answer
     }
 
     fn channel_row(&self, index: usize) -> Answer {
@@ -626,6 +709,11 @@ impl Implementation for Broken {
     }
 }
 
+/// Equal but for the top bit of M, or equal.
+fn alike(entry: &[u8], heard: &[u8]) -> bool {
+    entry[0] == heard[0] && entry[1] % 128 == heard[1] % 128 && entry[2..] == heard[2..]
+}
+
 /// The last lines that begin with a number, their place moved on.
 fn with_last_place(text: &str, number: &str, on: usize) -> String {
     lines_with(text, number, |place, value| (place + on, value))
@@ -652,7 +740,7 @@ fn lines_with(text: &str, number: &str, other: impl Fn(usize, usize) -> (usize, 
 }
 
 /// Every flaw, and the operation in which it must show.
-const FLAWS: [(Flaw, Operation); 30] = [
+const FLAWS: [(Flaw, Operation); 36] = [
     (Flaw::ChecksCountedInA, Operation::FrameSize),
     (Flaw::Words21And42, Operation::Decode),
     (Flaw::RegisterStartsAtOnes, Operation::Check),
@@ -671,8 +759,14 @@ const FLAWS: [(Flaw, Operation); 30] = [
     (Flaw::LongerBuffer, Operation::Decode),
     (Flaw::UnusedChipsStay, Operation::Encode),
     (Flaw::SnHighestFirst, Operation::HeaderRead),
-    (Flaw::LettersByThePage, Operation::Letters),
+    (Flaw::LettersByThePage, Operation::Maker),
+    (Flaw::SoftWithLettersOnly, Operation::Maker),
+    (Flaw::SoftByTheFirstByte, Operation::Maker),
+    (Flaw::HardAndSoftExchanged, Operation::Maker),
+    (Flaw::AlwaysHard, Operation::Maker),
     (Flaw::EntryBehindTheCount, Operation::Filter),
+    (Flaw::FilterWithoutTopBit, Operation::Filter),
+    (Flaw::FirstAlikeDecides, Operation::Filter),
     (Flaw::ToleranceOfRow7, Operation::ChannelRow),
     (Flaw::ChannelTooMany, Operation::ChannelCentre),
     (Flaw::CarriageReturn, Operation::BandLine),
@@ -698,6 +792,20 @@ fn every_flaw_is_found() {
         assert_eq!(again.run(&Broken(flaw)), difference.second, "{flaw:?}");
         assert_ne!(difference.first, difference.second, "{flaw:?}");
         assert!(difference.to_string().contains(operation.name()));
+    }
+}
+
+/// Every flaw of what M says and of the filter, without chance.
+#[test]
+fn every_flaw_of_makers_and_filter_is_found_in_the_small_inputs() {
+    let inputs = small_inputs();
+    let calls = [Operation::Maker, Operation::Filter];
+    let flaws = || FLAWS.into_iter().filter(|(_, call)| calls.contains(call));
+    assert_eq!(flaws().count(), 8);
+    for (flaw, operation) in flaws() {
+        let cases = inputs.iter().filter(|case| case.operation == operation);
+        let found = compare_cases(&Second, &Broken(flaw), cases.cloned());
+        assert!(found.is_err(), "{flaw:?} was not found");
     }
 }
 
@@ -749,7 +857,7 @@ fn every_field_of_every_row_is_compared() {
             }
         }
     }
-    assert_eq!(fields, 313);
+    assert_eq!(fields, 314);
 }
 
 #[test]

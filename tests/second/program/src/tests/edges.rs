@@ -6,7 +6,7 @@ use crate::channels::{band_line, band_listing, centre, quarters, row_of, TABLE_2
 use crate::check::{check, update};
 use crate::chips::{encode_list, packed, Code, THREE_OF_SIX};
 use crate::frames::{frame_of, read, write, Format, Sizes};
-use crate::headers::{access, letters, Access, HeaderKind};
+use crate::headers::{access, maker, Access, HeaderKind};
 
 #[test]
 fn checks_of_one_byte() {
@@ -216,6 +216,7 @@ fn access_of_a_meter() {
 
 #[test]
 fn letters_of_a_manufacturer() {
+    let letters = |m| maker(m).letters;
     assert_eq!(letters(0x0443), Some(*b"ABC"));
     // 12.5.5: the top bit is no part of a letter.
     assert_eq!(letters(0x8443), Some(*b"ABC"));

@@ -9,6 +9,7 @@ mod decoding;
 mod decoding_flaws;
 mod edges;
 mod hidden;
+mod makers;
 mod mending;
 mod mending_flaws;
 mod orders;
