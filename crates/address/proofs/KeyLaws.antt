@@ -8,7 +8,7 @@ use mathlib.Core.List.{List, ◌++◌}
 use mathlib.Core.Path.{◌≡◌, ap, ◌∙◌}
 use Prim.Native.Nat.{ℕ, zero, suc, ◌+◌, ◌*◌, ◌/◌, ◌%◌, ◌<◌}
 use native.Mathlib.Nat.{add_assoc}
-use native.Mathlib.Numerals.{add-one, add-two, add_three, add-four}
+use native.Mathlib.Numerals.{add-one, add-two, add-three, add-four}
 use native.Mathlib.Omega.{arith}
 use lib.ListN.{length, get_or}
 use lib.Seq.{get_or-append_seam, get_or-append-add}
@@ -61,7 +61,7 @@ module _ (s : List ℕ) (bytes : Bytes s) where
     fourth_byte = omega (arith, bytes (k + 3))
 
     pub four_bytes-four_at : four_bytes (four_at s k) ≡ bytes_from 4 s k
-    four_bytes-four_at = rw (first_byte, second_byte, third_byte, fourth_byte) (simp (add-one, add-two, add_three))
+    four_bytes-four_at = rw (first_byte, second_byte, third_byte, fourth_byte) (simp (add-one, add-two, add-three))
 
   module _ (k : ℕ) where
     high_half : key_at s k / 4294967296 ≡ four_at s k

@@ -11,7 +11,7 @@ use mathlib.Core.List.{List, [], ◌∷◌, ◌++◌}
 use mathlib.Core.Path.{◌≡◌, refl, ◌∙◌, ap}
 use mathlib.Core.Bool.{true, false, false≢true}
 use Prim.Native.Nat.{ℕ, zero, suc, ◌+◌, ◌*◌, ◌/◌, ◌%◌, ◌<◌, ◌≤◌}
-use native.Mathlib.Numerals.{add-one, add-two, add_three, add-four, add_five, add_six, add_seven}
+use native.Mathlib.Numerals.{add-one, add-two, add-three, add-four, add_five, add_six, add_seven}
 use native.Mathlib.Omega.{arith}
 use borrow.Author.Tests.{eqb-true, eq-eqb, ne_eqb}
 use lib.Dec.{eqb}
@@ -48,7 +48,7 @@ pub name_bytes_name_at :
     (s : List ℕ) (bytes : Bytes s) (k : ℕ) → k + 8 ≤ length s → name_bytes (name_at s k) ≡ take 8 (drop k s)
 name_bytes_name_at s bytes k h =
     rw (two_at-mod s bytes k, two_at-div s bytes k, take-drop 8 s k h)
-    (simp (add-one, add-two, add_three, add-four, add_five, add_six, add_seven))
+    (simp (add-one, add-two, add-three, add-four, add_five, add_six, add_seven))
 
 pub length_name_of : (s : List ℕ) → 8 < length s → length (name_of s) ≡ 8
 length_name_of s h = simp (length-take, length-drop) (omega arith)

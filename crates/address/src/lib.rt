@@ -1,6 +1,8 @@
 // What a meter, or whoever else sends, is called (EN 13757-4:2019, 12.5.5, 12.5.6; document 01, "Extended headers and
 // names"; document 02, 2/14): M, the number of its maker, with what it says, and A, six bytes.
 
+#![tactic(auto)]
+
 ghost use Rattle.std.specs.Prelude.{◌≡◌, [], ◌∷◌, ◌+◌, ◌<◌, length};
 ghost use Rattle.std.proofs.lemmas.List.Edits.{sets};
 ghost use Rattle.address.specs.Letters.{is_letter, letters_of};
@@ -9,32 +11,32 @@ ghost use Rattle.address.specs.Names.{two_at, name_bytes, name_at};
 ghost use Rattle.address.specs.Keys.{four_at, four_bytes, key_at, key_bytes};
 
 // Three letters as ASCII bytes, 'A' to 'Z', or none.
-#[derive(Drop)]
+#[derive(Clone, Copy)]
 pub enum Spelling {
     Three(u8, u8, u8),
     NoLetters,
 }
 
 // How far an address is unique: worldwide, or at least within radio range.
-#[derive(Drop)]
+#[derive(Clone, Copy)]
 pub enum Reach {
     Hard,
     Soft,
 }
 
 // What M says: letters or none, and hard or soft in both cases.
-#[derive(Drop)]
+#[derive(Clone, Copy)]
 pub struct Maker {
     pub spelled: Spelling,
     pub reach: Reach,
 }
 
 // A: six bytes as they are sent. No array, since an answer could not carry it.
-#[derive(Drop)]
+#[derive(Clone, Copy)]
 pub struct Address(pub u8, pub u8, pub u8, pub u8, pub u8, pub u8);
 
 // M and A.
-#[derive(Drop)]
+#[derive(Clone, Copy)]
 pub struct Name {
     pub m: u16,
     pub a: Address,

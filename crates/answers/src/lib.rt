@@ -1,10 +1,12 @@
 // Every refusal of documents 01 ("Answer numbers") and 02, once: its number, and the one value that it may carry.
 // A call answers its accepted cases or `Refused(Refusal)`, so that a caller passes a refusal on in one arm. What a call
 // can never answer is a theorem about its definition (crates/demands), not a type.
+#![tactic(auto)]
+
 ghost use Rattle.std.specs.Prelude.{◌≡◌};
 ghost use Rattle.answers.specs.Refusals.{number_of, value_of};
 
-#[derive(Drop)]
+#[derive(Clone, Copy)]
 pub enum Refusal {
     // The bytes or chips end before the frame or its sync tail.
     Short,
@@ -57,7 +59,7 @@ pub enum Refusal {
 }
 
 // What a writer answers: the bytes written.
-#[derive(Drop)]
+#[derive(Clone, Copy)]
 pub enum Written {
     Accepted(usize),
     Refused(Refusal),

@@ -2,6 +2,8 @@
 // 12.4; document 01, "Frames", "Changing a byte").
 // The formats differ in two numbers here: a frame's first span has at most `first` bytes, each later one at most
 // `later`. Callers have judged the lengths before they walk (docs/DECISIONS.md, D23).
+#![tactic(auto)]
+
 ghost use Rattle.std.specs.Prelude.{◌≡◌, ◌∷◌, ◌++◌, ◌+◌, ◌≤◌, ◌<◌, ◌^◌, min, length, take, drop};
 ghost use Rattle.std.proofs.Math.Seq.{paste};
 ghost use Rattle.blocks.specs.Places.{place_in, check_in, check_at, mended};
@@ -10,7 +12,7 @@ ghost use Rattle.blocks.specs.Spans.{sealed, framed, payload, block_ok, first_wr
 use crc::Updated;
 
 // What the checks behind the spans say: all right, or the first wrong block, counted from 1.
-#[derive(Drop)]
+#[derive(Clone, Copy)]
 pub enum Checks {
     Right,
     Wrong(usize),
@@ -191,7 +193,7 @@ pub fn put_all(l: u8, c: &[u8], first: usize, later: usize, out: &mut [u8])
 }
 
 // Where a byte of the payload stands: its span, and how many bytes of the span stand before it.
-#[derive(Drop)]
+#[derive(Clone, Copy)]
 struct Spot {
     start: usize,
     length: usize,

@@ -110,7 +110,7 @@ channel_sound i c h =
 
 pub float-quarters_of_exact :
     (i c : ℕ) → c < channels_of i → HasValue (float (quarters_of i c)) false (quarters_of i c) 4
-float-quarters_of_exact i c h = float_exact (quarters_of i c) (channel_sound i c h).quarters-lt
+float-quarters_of_exact i c h = float_exact (quarters_of i c) (channel_sound i c h).quarters_lt
 
 -- the three numbers of a row are exact too, also the zeros where there is no row
 pub record RowExact (i : ℕ) : Type 0 where

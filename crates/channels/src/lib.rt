@@ -1,5 +1,7 @@
 // The mode N channel plan and the list of a band (EN 13757-4:2019, 10.2, Table 21; document 01, "Mode N channels").
 
+#![tactic(auto)]
+
 mod table21; // table21.rt: the table's rows
 mod plan; // plan.rt: the row and the centre of an index and channel
 mod listing; // listing.rt: the lines of a band

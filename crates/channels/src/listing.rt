@@ -5,7 +5,7 @@ ghost use Rattle.channels.specs.Listing.{letter_of, band_of, rows_of, lines_of, 
 use crate::plan::{channels_of, hertz_in};
 
 // What an input names.
-#[derive(Drop)]
+#[derive(Clone, Copy)]
 pub enum Band {
     A,
     B,
@@ -15,14 +15,14 @@ pub enum Band {
 }
 
 // The indices of a band.
-#[derive(Drop)]
+#[derive(Clone, Copy)]
 pub struct Rows {
     pub first: usize,
     pub count: usize,
 }
 
 // A line of a band's list: index, channel, centre in hertz.
-#[derive(Drop)]
+#[derive(Clone, Copy)]
 pub enum Line {
     Channel(usize, usize, u64),
     End,

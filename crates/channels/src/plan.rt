@@ -6,7 +6,7 @@ ghost use Rattle.channels.specs.Plan.{float, row_of, centre_of};
 use crate::table21::{CHANNELS, ROWS};
 
 // A row of Table 21, in kilohertz: the first centre, the channel spacing, the frequency tolerance.
-#[derive(Drop)]
+#[derive(Clone, Copy)]
 pub struct Row {
     pub centre: f64,
     pub spacing: f64,
@@ -14,7 +14,7 @@ pub struct Row {
 }
 
 // A centre frequency in kilohertz.
-#[derive(Drop)]
+#[derive(Clone, Copy)]
 pub enum Centre {
     At(f64),
     NoSuch,

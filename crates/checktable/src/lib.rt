@@ -3,6 +3,8 @@
 // zero byte, and after b and two, so that the numbers of three bytes can be looked up at once.
 // It is a `match`, the only table of a source that becomes read-only memory: a constant array is copied to the stack at
 // each use, which takes longer than the check of a block. It is a crate of its own, since 256 arms take time to prove.
+#![tactic(auto)]
+
 ghost use Rattle.std.specs.Prelude.{◌≡◌};
 ghost use Rattle.checktable.specs.Rows.{row_of};
 

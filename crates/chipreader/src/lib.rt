@@ -1,6 +1,8 @@
 // A chip reader: it keeps the lent chips and its place in them, and takes one code word at a time (document 01, "Chips
 // and line codes", "Answer numbers"). The work is done by `start` and `step`, on a plain slice and a place.
 
+#![tactic(auto)]
+
 ghost use Rattle.std.specs.Prelude.{◌≡◌};
 ghost use Rattle.line.specs.Codes.{code_of};
 ghost use Rattle.chipreader.specs.Steps.{start_of, is_closed, step_of, reader_at, reader_after};
@@ -9,7 +11,7 @@ use answers::Refusal;
 use line::{Code, Word};
 
 // What the last call answered.
-#[derive(Drop)]
+#[derive(Clone, Copy)]
 pub enum Answer {
     Ready,
     Accepted(u8),
@@ -17,13 +19,13 @@ pub enum Answer {
 }
 
 // A place among the chips, and what was answered there.
-#[derive(Drop)]
+#[derive(Clone, Copy)]
 pub struct Place {
     pub at: usize,
     pub answer: Answer,
 }
 
-#[derive(Drop)]
+#[derive(Clone, Copy)]
 pub struct ChipReader<'a> {
     pub chips: &'a [u8],
     pub place: Place,

@@ -9,7 +9,7 @@ use mathlib.Core.Bool.{Bool, true, false, not, cond}
 use mathlib.Core.Path.{◌≡◌, refl, sym, ◌∙◌}
 use mathlib.Core.List.{List}
 use Prim.Native.Nat.{ℕ, ◌≤◌, ◌<◌}
-use borrow.Author.Tests.{le-leb, lt-leb, leb-true, not_true, not-false}
+use borrow.Author.Tests.{le-leb, lt-leb, leb-true, not-true, not-false}
 use lib.Dec.{leb}
 use lib.ListN.{length}
 use Rattle.ground.proofs.CaseLaws.{zero_not_one}
@@ -37,4 +37,4 @@ module _ (s : List ℕ) (at : ℕ) where
   in_range_long h = rw (lt-leb (length s) room_limit h)
 
   pub in_range_refused : {t : Bool} → t ≡ in_range s at → not t ≡ true → in_range s at ≡ false
-  in_range_refused {t} e h = sym e ∙ not_true t h
+  in_range_refused {t} e h = sym e ∙ not-true t h

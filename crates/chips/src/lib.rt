@@ -1,4 +1,6 @@
 // A chip buffer: its limit, and its chips as one number (document 01, "Chips and line codes").
+#![tactic(auto)]
+
 ghost use Rattle.std.specs.Prelude.{◌≡◌, ◌+◌, ◌*◌, ◌≤◌, ◌<◌, length};
 ghost use Rattle.chips.specs.Chips.{word_at, chip_count, room_limit, in_range};
 

@@ -3,7 +3,7 @@
 use answers::Refusal;
 
 // What a correction header says: check bytes of Reed-Solomon (255, 223) follow, or why nothing is said of them.
-#[derive(Drop)]
+#[derive(Clone, Copy)]
 pub enum Announced {
     ReedSolomon,
     Refused(Refusal),

@@ -7,7 +7,7 @@ ghost use Rattle.correction.specs.Inner.{bytes_of, row_at, RowsOk};
 use crate::rows::ROWS;
 
 // Its 32 bytes, highest power first, as four words.
-#[derive(Drop)]
+#[derive(Clone, Copy)]
 pub(crate) struct Remainder {
     pub(crate) a: u64,
     pub(crate) b: u64,

@@ -9,7 +9,7 @@
 use mathlib.Core.Path.{◌≡◌, refl, sym, ap, ap₂, ◌∙◌}
 use mathlib.Core.List.{List, [], ◌∷◌}
 use Prim.Native.Nat.{ℕ, zero, suc, ◌+◌, ◌*◌, ◌-◌, ◌/◌, ◌%◌, ◌^◌, ◌<◌, ◌≤◌}
-use native.Mathlib.Nat.{pow-suc, zero-add, mul_one, mul_comm, mul_assoc}
+use native.Mathlib.Nat.{pow-suc, zero-add, mul-one, mul_comm, mul_assoc}
 use native.Mathlib.Omega.{arith}
 use lib.Bits.{bit_xor, xor_shr, xor_mod, xor_zero_r, xor_shifted}
 use lib.Pow.{pow_mono}
@@ -79,7 +79,7 @@ remainder_double m h = rem_of_double 63 m ∙ ap bit_in (sym (rem_of_next 63 m h
 
 pub remainder-shifted : (j k m : ℕ) → m < 2 ^ k → k + j ≤ 64 → remainder (m * 2 ^ j) ≡ bits_in j (remainder m)
 unfolding bits_in
-remainder-shifted zero k m h fits = ap remainder (mul_one m)
+remainder-shifted zero k m h fits = ap remainder (mul-one m)
 remainder-shifted (suc j) k m h fits =
     let e : m * 2 ^ suc j ≡ m * 2 * 2 ^ j =
     ap (λ (x : ℕ). m * x) (pow-suc 2 j ∙ mul_comm (2 ^ j) 2) ∙ sym (mul_assoc m 2 (2 ^ j)) in

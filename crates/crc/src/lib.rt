@@ -1,5 +1,7 @@
 // The block check and its update (EN 13757-4:2019, 12.5.7; document 01, "Frames", "Changing a byte"; document 02,
 // 3/14).
+#![tactic(auto)]
+
 ghost use Rattle.std.specs.Prelude.{◌≡◌, ◌≤◌};
 ghost use Rattle.crc.specs.Check.{reg_of, check_of};
 ghost use Rattle.crc.specs.CheckUpdate.{updating, farthest, Mends};
@@ -15,7 +17,7 @@ mod words; // words.rt: sixteen bytes at once
 const FARTHEST: usize = 125;
 
 // What the update of a check answers: the new check, or that the distance is too large.
-#[derive(Drop)]
+#[derive(Clone, Copy)]
 pub enum Updated {
     Accepted(u16),
     Refused(Refusal),

@@ -35,11 +35,11 @@ alone {s = s} {z = z} at =
 
 spans_said :
     {f : Format} {s : List ℕ} {z : ℕ} {c : List ℕ} → FrameAt f s z c
-    → spans_of f ((form_of f).contentLength (get_or s 0 0)) ≡ spans_of f (length c)
+    → spans_of f ((form_of f).content_length (get_or s 0 0)) ≡ spans_of f (length c)
 spans_said {f} {s} {c = c} at =
     let byte = (size_for_accepted f (get_or s 0 0) (size_for_frame at)).byte in
     ap (spans_of f)
-    (ap (form_of f).contentLength (sym byte) ∙ content_length-length_byte f (length c) at.low at.high)
+    (ap (form_of f).content_length (sym byte) ∙ content_length-length_byte f (length c) at.low at.high)
 
 module _
     {limit : ℕ} {Q P : List ℕ → Type 0} (tells : Telling limit Q P) (kind : List ℕ → List ℕ → Type 0)

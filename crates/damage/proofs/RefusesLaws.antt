@@ -51,7 +51,7 @@ judge_low : (f : Format) (s : List ℕ) → Low (judge_of f s)
 unfolding judge_of
 judge_low f [] = (omega arith, omega arith)
 judge_low f (l ∷ s) =
-    let n = (form_of f).contentLength l in
+    let n = (form_of f).content_length l in
     by_length_low f (l ∷ s) (size_for f l)
     (low-cond ((form_of f).allowed l) (Frame.Accepted (frame_size f n) n) (Frame.Refused Refusal.BadLength) refl
     (omega arith, omega arith))

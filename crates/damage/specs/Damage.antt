@@ -61,7 +61,7 @@ InSome kind (k ∷ ks) old new =
 
 pub record InBlock (f : Format) (kind : List ℕ → List ℕ → Type 0) (old new : List ℕ) : Type 0 where
   pub count : length new ≡ length old
-  pub block : InSome kind (spans_of f ((form_of f).contentLength (get_or old 0 0))) old new
+  pub block : InSome kind (spans_of f ((form_of f).content_length (get_or old 0 0))) old new
 
 unfoldable pub first_damaged : ℕ → List ℕ → List ℕ → List ℕ → ℕ
 first_damaged b [] old new = b

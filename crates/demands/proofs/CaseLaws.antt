@@ -119,16 +119,16 @@ module _ (κ : LineCode) (s : List ℕ) (at m : ℕ) where
 
 -- 2
 module _ (f : Format) (l : ℕ) where
-  pub allowed_announces : (form_of f).allowed l ≡ true → Announces f l ((form_of f).contentLength l)
+  pub allowed_announces : (form_of f).allowed l ≡ true → Announces f l ((form_of f).content_length l)
   allowed_announces e =
-      let n = (form_of f).contentLength l in
+      let n = (form_of f).content_length l in
       let both = true_within (form_of f).shortest (form_of f).longest n (within-content_length f l e) in
       record { low = both.0; high = both.1; byte = length_byte-content_length f l e }
 
   pub announces_allowed : (n : ℕ) → Announces f l n → (form_of f).allowed l ≡ true
   announces_allowed n a = rw a.byte at (allowed-length_byte f n a.low a.high)
 
-  pub announces_same : (n : ℕ) → Announces f l n → n ≡ (form_of f).contentLength l
+  pub announces_same : (n : ℕ) → Announces f l n → n ≡ (form_of f).content_length l
   announces_same n a = sym (rw a.byte at (content_length-length_byte f n a.low a.high))
 
 -- 3, for the blocks over the spans ks, which are all there

@@ -46,7 +46,7 @@ module _ {B : Type 0} {refused : Refusal → B} (told : Frame → B)
       → Follows refused (2 when NotAllowed f l else given (Announces f l) rest) (told (size_for f l))
   size_follows l rest go = by ((form_of f).allowed l) refl where
     n : ℕ
-    n = (form_of f).contentLength l
+    n = (form_of f).content_length l
 
     by :
         (t : Bool) → (form_of f).allowed l ≡ t

@@ -98,7 +98,7 @@ module _
 
   says : (s : List ℕ) → n ≤ 16 → 9 ≤ length s → Says s
   says s few long =
-      (promise es n s sixteen).accepted-exactly.1 (λ w over. omega arith, (λ w short. omega arith, refl))
+      (promise es n s sixteen).accepted_exactly.1 (λ w over. omega arith, (λ w short. omega arith, refl))
 
   module _ (s : List ℕ) (long : 9 ≤ length s) where
     pub listed_alone :
@@ -131,9 +131,9 @@ module _
           ((k : ℕ) × ((v : ℕ) × Gives (filter_rule es n s) k v)) ⊎ Passes (filter_rule es n s)
           → (9 ≤ length s) × InUse es n (name_of s)
       by (inl g) =
-          let r = ((promise es n s sixteen).refused-exactly g.0 g.1.0).1 g.1.1 in
+          let r = ((promise es n s sixteen).refused_exactly g.0 g.1.0).1 g.1.1 in
           absurd (zero_not_one (let no = r.1.0 in cc))
-      by (inr p) = (at_least p, there ((promise es n s sixteen).accepted-exactly.1 p))
+      by (inr p) = (at_least p, there ((promise es n s sixteen).accepted_exactly.1 p))
 
   pub entries_apart :
       (s : List ℕ) → filter es n s ≡ Verdict.Wanted → filter es n (top_turned s) ≡ Verdict.Wanted

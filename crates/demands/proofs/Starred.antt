@@ -20,7 +20,7 @@ use Rattle.address.specs.Makers.{maker_of}
 
 -- L and the size of a frame whose content has n bytes
 abbrev sizes : Format → ℕ → List ℕ
-sizes f n = (form_of f).lengthByte n ∷ frame_size f n ∷ []
+sizes f n = (form_of f).length_byte n ∷ frame_size f n ∷ []
 
 -- what an answer returns, nothing where it is no acceptance
 abbrev check_row : Updated → List ℕ

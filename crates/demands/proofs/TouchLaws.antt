@@ -110,7 +110,7 @@ module _ (f : Format) (s : List ℕ) (z n : ℕ) (e : judge_of f s ≡ Frame.Acc
   unfolding frame_size
   place_held x size =
       let ks = spans_of f n in
-      let held = (form_of f).lengthByte n ∷ x in
+      let held = (form_of f).length_byte n ∷ x in
       let whole : frame_of f x ≡ framed ks held ++ [] = frame_of_length f x n size ∙ sym (append-nil (framed ks held)) in
       let fits = ap length (frame_of_length f x n size) ∙ length_framed ks held (omega (arith, total-spans_of f n)) in
       place_in_held ks (frame_of f x) (k + 1) (omega (arith, fits, ap length (frame_of_length f x n size))) inside

@@ -53,7 +53,7 @@ TailIs s place Kind.ManchesterWithA = ⊥
 pub record Announces (f : Format) (l n : ℕ) : Type 0 where
   pub low : (form_of f).shortest ≤ n
   pub high : n ≤ (form_of f).longest
-  pub byte : (form_of f).lengthByte n ≡ l
+  pub byte : (form_of f).length_byte n ≡ l
 
 abbrev pub NotAllowed : Format → ℕ → Type 0
 NotAllowed f l = (n : ℕ) → Announces f l n → ⊥

@@ -1,12 +1,14 @@
 // The meter filter: which contents come from a meter that is listed (document 01, "Meter filter").
 
+#![tactic(auto)]
+
 ghost use Rattle.std.specs.Prelude.{◌≡◌, ◌<◌, length};
 ghost use Rattle.address.specs.Names.{name_of, same_bytes};
 ghost use Rattle.filter.specs.Listed.{verdict_of};
 
 use answers::Refusal;
 
-#[derive(Drop)]
+#[derive(Clone, Copy)]
 pub enum Verdict {
     Wanted,
     Unwanted,

@@ -49,7 +49,7 @@ module _ (f : Format) (c t : List ℕ) (low : (form_of f).shortest ≤ length c)
   first_wrong_frame_of : first_wrong 1 (spans_of f (length c)) (frame_of f c ++ t) ≡ Right
   unfolding frame_of
   first_wrong_frame_of =
-      first_wrong_framed 1 (spans_of f (length c)) ((form_of f).lengthByte (length c) ∷ c) t
+      first_wrong_framed 1 (spans_of f (length c)) ((form_of f).length_byte (length c) ∷ c) t
       (omega (arith, total-spans_of f (length c)))
 
   judge_of_frame_of : judge_of f (frame_of f c ++ t) ≡ Frame.Accepted (frame_size f (length c)) (length c)
@@ -93,7 +93,7 @@ pub record WholeFrame (f : Format) (s : List ℕ) (z n : ℕ) : Type 0 where
   pub size : z ≡ frame_size f n
   pub fits : z ≤ length s
   pub right : first_wrong 1 (spans_of f n) s ≡ Right
-  pub held : payload (spans_of f n) s ≡ (form_of f).lengthByte n ∷ content_in f n s
+  pub held : payload (spans_of f n) s ≡ (form_of f).length_byte n ∷ content_in f n s
 
 sized_whole :
     {f : Format} {l z n : ℕ} {s : List ℕ} → Sized f l z n → z ≤ length (l ∷ s)

@@ -32,7 +32,7 @@ use Rattle.frame.proofs.AcceptLaws.{WholeFrame, judge_of-accepted, whole_room, w
 
 -- mending in place is writing the changed content afresh
 module _ {f : Format} {s : List ℕ} {z n : ℕ} (w : WholeFrame f s z n) (k b : ℕ) (there : k < n) where
-  set-payload : set (payload (spans_of f n) s) (k + 1) b ≡ (form_of f).lengthByte n ∷ set (content_in f n s) k b
+  set-payload : set (payload (spans_of f n) s) (k + 1) b ≡ (form_of f).length_byte n ∷ set (content_in f n s) k b
   set-payload = rw (w.held, add-one k)
 
   length-set-content_in : length (set (content_in f n s) k b) ≡ n

@@ -85,26 +85,26 @@ module _ (f : Format) (n : ℕ) (low : (form_of f).shortest ≤ n) (high : n ≤
   length-lt : n < 256
   length-lt = omega (arith, longest-le f)
 
-  pub allowed-length_byte : (form_of f).allowed ((form_of f).lengthByte n) ≡ true
+  pub allowed-length_byte : (form_of f).allowed ((form_of f).length_byte n) ≡ true
   allowed-length_byte =
-      bytes-implies content_fits (λ f n. (form_of f).allowed ((form_of f).lengthByte n)) tt tt f n length-lt
+      bytes-implies content_fits (λ f n. (form_of f).allowed ((form_of f).length_byte n)) tt tt f n length-lt
       content_fits_true
 
-  pub content_length-length_byte : (form_of f).contentLength ((form_of f).lengthByte n) ≡ n
+  pub content_length-length_byte : (form_of f).content_length ((form_of f).length_byte n) ≡ n
   content_length-length_byte =
-      eqb-true _ _ (bytes-implies content_fits (λ f n. eqb ((form_of f).contentLength ((form_of f).lengthByte n)) n)
+      eqb-true _ _ (bytes-implies content_fits (λ f n. eqb ((form_of f).content_length ((form_of f).length_byte n)) n)
       tt tt f n length-lt content_fits_true)
 
 -- from L to the content's length and back
 module _ (f : Format) (l : ℕ) (h : (form_of f).allowed l ≡ true) where
-  pub length_byte-content_length : (form_of f).lengthByte ((form_of f).contentLength l) ≡ l
+  pub length_byte-content_length : (form_of f).length_byte ((form_of f).content_length l) ≡ l
   length_byte-content_length =
       eqb-true _ _ (bytes-implies (λ f. (form_of f).allowed)
-      (λ f l. eqb ((form_of f).lengthByte ((form_of f).contentLength l)) l) tt tt f l (allowed-lt f l h) h)
+      (λ f l. eqb ((form_of f).length_byte ((form_of f).content_length l)) l) tt tt f l (allowed-lt f l h) h)
 
-  pub within-content_length : within (form_of f).shortest (form_of f).longest ((form_of f).contentLength l) ≡ true
+  pub within-content_length : within (form_of f).shortest (form_of f).longest ((form_of f).content_length l) ≡ true
   within-content_length =
-      bytes-implies (λ f. (form_of f).allowed) (λ f l. content_fits f ((form_of f).contentLength l)) tt tt f l
+      bytes-implies (λ f. (form_of f).allowed) (λ f l. content_fits f ((form_of f).content_length l)) tt tt f l
       (allowed-lt f l h) h
 
 -- sixteen bytes at a time, two more for each begun sixteen

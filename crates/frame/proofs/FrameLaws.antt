@@ -25,19 +25,19 @@ module _ (f : Format) where
   pub length_frame_of : (c : List ℕ) → length (frame_of f c) ≡ frame_size f (length c)
   unfolding frame_of frame_size
   length_frame_of c =
-      length_framed (spans_of f (length c)) ((form_of f).lengthByte (length c) ∷ c)
+      length_framed (spans_of f (length c)) ((form_of f).length_byte (length c) ∷ c)
       (omega (arith, total-spans_of (length c)))
 
   pub frame_of_length :
-      (c : List ℕ) (n : ℕ) → length c ≡ n → frame_of f c ≡ framed (spans_of f n) ((form_of f).lengthByte n ∷ c)
+      (c : List ℕ) (n : ℕ) → length c ≡ n → frame_of f c ≡ framed (spans_of f n) ((form_of f).length_byte n ∷ c)
   unfolding frame_of
   frame_of_length c n e = rw e
 
-  pub frame_of_cons : (c : List ℕ) → frame_of f c ≡ (form_of f).lengthByte (length c) ∷ drop 1 (frame_of f c)
+  pub frame_of_cons : (c : List ℕ) → frame_of f c ≡ (form_of f).length_byte (length c) ∷ drop 1 (frame_of f c)
   unfolding frame_of
   frame_of_cons c =
       framed_head (form_of f).first (form_of f).later (length c) (one-lt_first f) (zero-lt_later f)
-      ((form_of f).lengthByte (length c)) c
+      ((form_of f).length_byte (length c)) c
 
   pub payload-cons : (n l : ℕ) (s : List ℕ) → payload (spans_of f n) (l ∷ s) ≡ l ∷ content_in f n (l ∷ s)
   unfolding content_in
@@ -47,7 +47,7 @@ module _ (f : Format) where
   unfolding frame_of content_in
   content_in_frame_of c t =
       ap (drop 1)
-      (payload_framed (spans_of f (length c)) ((form_of f).lengthByte (length c) ∷ c) t
+      (payload_framed (spans_of f (length c)) ((form_of f).length_byte (length c) ∷ c) t
       (sym (total-spans_of (length c) ∙ add-one (length c))))
 
   pub length-content_in : (n : ℕ) (s : List ℕ) → frame_size f n ≤ length s → length (content_in f n s) ≡ n
@@ -59,7 +59,7 @@ module _ (f : Format) where
       (c : List ℕ) → (form_of f).shortest ≤ length c → length c ≤ (form_of f).longest → Bytes c → Bytes (frame_of f c)
   unfolding frame_of
   frame_of_bytes c low high b =
-      let l = (form_of f).lengthByte (length c) in
+      let l = (form_of f).length_byte (length c) in
       framed_bytes (spans_of f (length c)) (l ∷ c)
       (bytes-cons l c (allowed-lt f l (allowed-length_byte f (length c) low high)) b)
 

@@ -32,14 +32,14 @@ module _ {z n : ℕ} where
   cond_refused_else false j r h = (cc, cc)
 
 pub record Sized (f : Format) (l z n : ℕ) : Type 0 where
-  pub byte : (form_of f).lengthByte n ≡ l
+  pub byte : (form_of f).length_byte n ≡ l
   pub size : z ≡ frame_size f n
   pub low : (form_of f).shortest ≤ n
   pub high : n ≤ (form_of f).longest
 
 allowed_sized :
     (f : Format) (l : ℕ) → (form_of f).allowed l ≡ true
-    → Sized f l (frame_size f ((form_of f).contentLength l)) ((form_of f).contentLength l)
+    → Sized f l (frame_size f ((form_of f).content_length l)) ((form_of f).content_length l)
 allowed_sized f l h =
     let bounds = true_within _ _ _ (within-content_length f l h) in
     record { byte = length_byte-content_length f l h; size = refl; low = bounds.0; high = bounds.1 }
@@ -47,8 +47,8 @@ allowed_sized f l h =
 pub size_for_accepted : (f : Format) (l : ℕ) {z n : ℕ} → size_for f l ≡ Frame.Accepted z n → Sized f l z n
 size_for_accepted f l {z} {n} h =
     let p = cond_refused_else ((form_of f).allowed l) _ _ h in
-    let content : (form_of f).contentLength l ≡ n = cc in
-    let size : frame_size f ((form_of f).contentLength l) ≡ z = cc in
+    let content : (form_of f).content_length l ≡ n = cc in
+    let size : frame_size f ((form_of f).content_length l) ≡ z = cc in
     rw (size, content) at (allowed_sized f l p.0)
 
 pub judge_of-nil : (f : Format) (s : List ℕ) → length s ≡ 0 → judge_of f s ≡ Frame.Refused Refusal.Short

@@ -17,7 +17,7 @@ use Rattle.frame.specs.Frames.{frame_of}
 
 -- L and the size of a frame whose content has n bytes
 abbrev sizes : Format → ℕ → List ℕ
-sizes f n = (form_of f).lengthByte n ∷ frame_size f n ∷ []
+sizes f n = (form_of f).length_byte n ∷ frame_size f n ∷ []
 
 pub sizes_worked :
     sizes A 26 ∷ sizes A 41 ∷ sizes A 42 ∷ sizes B 10 ∷ sizes B 251 ∷ []

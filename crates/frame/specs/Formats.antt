@@ -68,5 +68,5 @@ frame_size f n = size_of (spans_of f n)
 abbrev pub size_for : Format → ℕ → Frame
 size_for f l =
     cond ((form_of f).allowed l)
-    (Frame.Accepted (frame_size f ((form_of f).contentLength l)) ((form_of f).contentLength l))
+    (Frame.Accepted (frame_size f ((form_of f).content_length l)) ((form_of f).content_length l))
     (Frame.Refused Refusal.BadLength)

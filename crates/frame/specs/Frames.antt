@@ -9,7 +9,7 @@ use Rattle.frame.specs.declared.Format.{Format}
 use Rattle.frame.specs.Formats.{form_of, spans_of, frame_size}
 
 unfoldable pub frame_of : Format → List ℕ → List ℕ
-frame_of f c = framed (spans_of f (length c)) ((form_of f).lengthByte (length c) ∷ c)
+frame_of f c = framed (spans_of f (length c)) ((form_of f).length_byte (length c) ∷ c)
 
 unfoldable pub content_in : Format → ℕ → List ℕ → List ℕ
 content_in f n s = drop 1 (payload (spans_of f n) s)

@@ -13,21 +13,21 @@ use answers::{Refusal, Written};
 use blocks::Checks;
 
 // The two frame formats.
-#[derive(Drop)]
+#[derive(Clone, Copy)]
 pub enum Format {
     A,
     B,
 }
 
 // What a length byte or a buffer says of a frame: its size and that of its content, or why there is none.
-#[derive(Drop)]
+#[derive(Clone, Copy)]
 pub enum Frame {
     Accepted { size: usize, n: usize },
     Refused(Refusal),
 }
 
 // Format A: L counts no check; L and nine bytes have the first check, every 16 bytes after them one more.
-#[derive(Drop)]
+#[derive(Clone, Copy)]
 pub struct FormatA {}
 
 impl FormatA {
@@ -43,7 +43,7 @@ impl FormatA {
 
     fn length_byte(n: usize) -> u8
         requires { n ≤ (form_of Format.A).longest }
-        ensures { result ≡ (form_of Format.A).lengthByte n }
+        ensures { result ≡ (form_of Format.A).length_byte n }
     {
         n as u8
     }
@@ -69,7 +69,7 @@ impl FormatA {
 }
 
 // Format B: L counts the checks; L and 125 bytes have the first check, what comes after them the second.
-#[derive(Drop)]
+#[derive(Clone, Copy)]
 pub struct FormatB {}
 
 impl FormatB {
@@ -84,7 +84,7 @@ impl FormatB {
 
     fn length_byte(n: usize) -> u8
         requires { n ≤ (form_of Format.B).longest }
-        ensures { result ≡ (form_of Format.B).lengthByte n }
+        ensures { result ≡ (form_of Format.B).length_byte n }
     {
         if n < Self::FIRST {
             (n + 2) as u8
@@ -161,7 +161,7 @@ impl Format {
 
     fn length_byte(self, n: usize) -> u8
         requires { n ≤ (form_of self).longest }
-        ensures { result ≡ (form_of self).lengthByte n }
+        ensures { result ≡ (form_of self).length_byte n }
     {
         match self {
             Format::A => FormatA::length_byte(n),

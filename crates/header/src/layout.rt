@@ -5,7 +5,7 @@ ghost use Rattle.header.specs.Layout.{ci_of, addressed, secured, session_place, 
 use address::Name;
 
 // The four fixed headers (Table 43). Secured is the standard's encryption: a session number and a payload check.
-#[derive(Drop)]
+#[derive(Clone, Copy)]
 pub enum HeaderKind {
     Plain,
     Secured,
@@ -14,11 +14,11 @@ pub enum HeaderKind {
 }
 
 // PayloadCRC: two bytes as they are sent, not judged.
-#[derive(Drop)]
+#[derive(Clone, Copy)]
 pub struct PayloadCheck(pub u8, pub u8);
 
 // What encryption needs: SN and PayloadCRC.
-#[derive(Drop)]
+#[derive(Clone, Copy)]
 pub struct Session {
     pub sn: u32,
     pub check: PayloadCheck,
@@ -26,7 +26,7 @@ pub struct Session {
 
 // A header; the receiver is M2 and A2. What its kind lacks is zero where it was read, and is not looked at where it is
 // written.
-#[derive(Drop)]
+#[derive(Clone, Copy)]
 pub struct Header {
     pub kind: HeaderKind,
     pub cc: u8,

@@ -10,14 +10,14 @@ use crate::layout::{
 use address::{Address, Name, name_at, two_at};
 use answers::Refusal;
 
-#[derive(Drop)]
+#[derive(Clone, Copy)]
 pub enum HeaderReading {
     Accepted(Header, usize),
     Refused(Refusal),
 }
 
 // The kind that a CI byte stands for.
-#[derive(Drop)]
+#[derive(Clone, Copy)]
 enum CiKind {
     Is(HeaderKind),
     NoKind,

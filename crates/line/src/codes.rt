@@ -5,7 +5,7 @@ ghost use Rattle.line.specs.Inner.{unit_of, listed_for, row_of, Halves};
 ghost use Rattle.line.specs.declared.codes.Code.TheVariants.{ThreeOfSix, Manchester};
 
 // Which code words stand for the bits.
-#[derive(Drop)]
+#[derive(Clone, Copy)]
 pub enum Code {
     Nrz,
     ThreeOfSix,
@@ -13,7 +13,7 @@ pub enum Code {
 }
 
 // What a word of chips stands for: a byte (NRZ), a half-byte (three-of-six) or a bit (Manchester).
-#[derive(Drop)]
+#[derive(Clone, Copy)]
 pub enum Value {
     Is(u8),
     NoWord,

@@ -13,14 +13,14 @@ use crate::{codes, digits};
 use answers::Refusal;
 
 // What decoding a named number of bytes answers.
-#[derive(Drop)]
+#[derive(Clone, Copy)]
 pub enum Decoded {
     Accepted,
     Refused(Refusal),
 }
 
 // What the words of one byte stand for: the byte, or the place of the first of them that is no code word.
-#[derive(Drop)]
+#[derive(Clone, Copy)]
 enum Byte {
     Is(u8),
     Bad(usize),

@@ -8,7 +8,7 @@ use crate::codes::{Code, Value};
 use answers::Refusal;
 
 // What decoding one word answers: the byte, half-byte or bit that it stands for.
-#[derive(Drop)]
+#[derive(Clone, Copy)]
 pub enum Word {
     Accepted(u8),
     Refused(Refusal),

@@ -12,7 +12,7 @@ use products::{combine, ratio, times};
 pub(crate) const COLUMNS: usize = 16;
 
 // The column that was reached, and what stands there.
-#[derive(Drop)]
+#[derive(Clone, Copy)]
 pub(crate) struct Reached {
     pub(crate) column: usize,
     pub(crate) sum: u8,

@@ -7,7 +7,7 @@ ghost use Rattle.locating.specs.Locates.{Locates};
 use crate::reducing::{COLUMNS, reduce};
 
 // A polynomial, 17 coefficients from that of the power 16 on, and its degree.
-#[derive(Drop)]
+#[derive(Clone, Copy)]
 pub struct Locator {
     pub coefficients: [u8; 17],
     pub degree: usize,

@@ -12,7 +12,7 @@ use crate::words::{CHECKS, code_word, remainder};
 use products::{tables_lent, value_at};
 
 // One wrong byte: its place in the word, and the sum of the wrong and the right byte. 0 is no wrong byte.
-#[derive(Drop)]
+#[derive(Clone, Copy)]
 pub(crate) struct Fault {
     pub(crate) place: usize,
     pub(crate) error: u8,

@@ -3,7 +3,7 @@
 use answers::Refusal;
 
 // What becomes of a proposal: taken, and in how many bytes it differs from what was received; or why it is not.
-#[derive(Drop)]
+#[derive(Clone, Copy)]
 pub enum Proposal {
     Taken(usize),
     Refused(Refusal),

@@ -33,12 +33,12 @@ use Rattle.radio.proofs.ThroughLaws.{Through, through_le, after_words_through, g
 -- the size that the length byte of a content's frame says
 size_for_length_byte :
     (f : Format) (c : List ℕ) → (form_of f).shortest ≤ length c → length c ≤ (form_of f).longest
-    → size_for f ((form_of f).lengthByte (length c)) ≡ Frame.Accepted (frame_size f (length c)) (length c)
+    → size_for f ((form_of f).length_byte (length c)) ≡ Frame.Accepted (frame_size f (length c)) (length c)
 size_for_length_byte f c low high =
     rw (allowed-length_byte f (length c) low high, content_length-length_byte f (length c) low high)
 
 -- a frame has its length byte in front, and so one byte at least
-get_d_frame_of : (f : Format) (c t : List ℕ) → get_or (frame_of f c ++ t) 0 0 ≡ (form_of f).lengthByte (length c)
+get_d_frame_of : (f : Format) (c t : List ℕ) → get_or (frame_of f c ++ t) 0 0 ≡ (form_of f).length_byte (length c)
 get_d_frame_of f c t = ap (λ (l : List ℕ). get_or (l ++ t) 0 0) (frame_of_cons f c)
 
 frame_of_some : (f : Format) (c : List ℕ) → 0 < length (frame_of f c)
@@ -76,7 +76,7 @@ module _ {k : Kind} {s : List ℕ} {place : ℕ} {c : List ℕ} (p : FrameCoded 
       let whole : Through (line_of k) s at (length frame) = record { small = small; there = p.there; words = run } in
       rw (length_frame_of (format_of k) c) at whole
 
-  length_at_coded : length_at (line_of k) s at ≡ (form_of (format_of k)).lengthByte (length c)
+  length_at_coded : length_at (line_of k) s at ≡ (form_of (format_of k)).length_byte (length c)
   length_at_coded =
       sym (get_d_decoding (line_of k) s at size size_some)
       ∙ ap (λ (x : List ℕ). get_or x 0 0) (decoding_coded ∙ sym (append-nil frame))
@@ -117,7 +117,7 @@ module _ (k : Kind) {s : List ℕ} (place : ℕ) {y m z : ℕ} {c : List ℕ}
   bytes_some =
       omega (arith, frame_of_some (format_of k) c, ap length frame.bytes, length-take z bytes, length_bytes)
 
-  length_at_read : length_at (line_of k) s (place + lead_of k) ≡ (form_of (format_of k)).lengthByte (length c)
+  length_at_read : length_at (line_of k) s (place + lead_of k) ≡ (form_of (format_of k)).length_byte (length c)
   length_at_read =
       sym (get_d_decoding (line_of k) s (place + lead_of k) y bytes_some)
       ∙ ap (λ (x : List ℕ). get_or x 0 0) (frame_split frame)

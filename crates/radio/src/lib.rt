@@ -15,7 +15,7 @@ use line::{Code, Decoded};
 use sync::{Kind, Sync, Tail};
 
 // What receiving answers.
-#[derive(Drop)]
+#[derive(Clone, Copy)]
 pub enum Reception {
     // A frame of this kind, whose sync word stands at `place`, found as the `tried`-th position: `size` bytes of frame,
     // `n` bytes of content, which now stand in the lent memory. Manchester has no search: its place is the start, and

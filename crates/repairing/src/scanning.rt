@@ -11,7 +11,7 @@ use crate::values::correct;
 use products::{combine, ratio, times_power, value_at};
 
 // The degree that the locator has now, and the next place: how many bytes stand behind it.
-#[derive(Drop)]
+#[derive(Clone, Copy)]
 pub(crate) struct Next {
     pub(crate) degree: usize,
     pub(crate) place: usize,

@@ -4,7 +4,7 @@ use frame::Format;
 use modes::Mode;
 
 // What is held of a meter. Mode and format are no numbers: a value outside its list cannot stand here.
-#[derive(Drop)]
+#[derive(Clone, Copy)]
 pub struct Meter {
     // M and A as received, the eight bytes as one number, first byte highest.
     pub address: u64,
@@ -17,14 +17,14 @@ pub struct Meter {
 }
 
 // What a call answers that asks for a number.
-#[derive(Drop)]
+#[derive(Clone, Copy)]
 pub enum Value {
     Accepted(u32),
     Refused(Refusal),
 }
 
 // What a call answers that asks for a meter.
-#[derive(Drop)]
+#[derive(Clone, Copy)]
 pub enum Lookup {
     Accepted(Meter),
     Refused(Refusal),

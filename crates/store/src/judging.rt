@@ -11,7 +11,7 @@ use answers::Refusal;
 pub const MEMORY: usize = 1288;
 
 // What memory holds: so many meters.
-#[derive(Drop)]
+#[derive(Clone, Copy)]
 pub enum Held {
     Meters(usize),
     Refused(Refusal),

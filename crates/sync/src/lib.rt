@@ -1,5 +1,7 @@
 // The search for the sync word that modes T and C share, and the tail that tells them apart (document 01,
 // "Sync search"; EN 13757-4:2019, 9.4.2).
+#![tactic(auto)]
+
 ghost use Rattle.std.specs.Prelude.{◌≡◌, ℕ, ◌+◌, ◌-◌, ◌/◌, ◌%◌, ◌^◌, ◌≤◌, ◌<◌, min, eqb, length};
 ghost use Rattle.chips.specs.Chips.{room_limit};
 ghost use Rattle.sync.specs.Tails.{tail_of, kind_for};
@@ -8,7 +10,7 @@ ghost use Rattle.sync.specs.SyncSearch.{positions, passed, stands_at, search_of,
 use answers::Refusal;
 
 // What a search found.
-#[derive(Drop)]
+#[derive(Clone, Copy)]
 pub enum Sync {
     // The word stands first at `place`, the `tried`-th position from the start.
     Found { place: usize, tried: usize },
@@ -16,7 +18,7 @@ pub enum Sync {
 }
 
 // The four kinds of frame in chips: mode or line code, and frame format. There is no other.
-#[derive(Drop)]
+#[derive(Clone, Copy)]
 pub enum Kind {
     TWithA,
     CWithA,
@@ -25,7 +27,7 @@ pub enum Kind {
 }
 
 // What the sixteen chips behind a sync word say.
-#[derive(Drop)]
+#[derive(Clone, Copy)]
 pub enum Tail {
     // A frame of this kind begins.
     Begins(Kind),

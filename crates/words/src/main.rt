@@ -21,7 +21,7 @@ const CHIPS: usize = 9;
 // A reader is asked for at most so many words: 4,096 of two chips each in the longest buffer, and the refusal.
 const MOST: usize = 4097;
 
-#[derive(Drop)]
+#[derive(Clone, Copy)]
 enum Input {
     Reader(Code, bool),
     NoSuch,

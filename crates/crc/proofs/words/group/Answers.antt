@@ -1,0 +1,19 @@
+-- `crc::words::group` meets its contract: four words of four bytes each, one behind the other. Assumes nothing.
+use mathlib.Core.Path.{refl}
+use Prim.Native.Nat.{◌+◌}
+use native.Mathlib.Omega.{arith}
+use Rattle.crc.specs.Inner.{remainder}
+use Rattle.crc.proofs.WordLaws.{adds_two, adds_four}
+use Rattle.crc.proofs.words.group.Goals as goal
+
+pub returns : goal.returns
+returns c =
+    let a = c.args in record {
+      adds = adds_four a.s.now a.at 8 (a.at + 8) (a.at + 12) (remainder c.number-p.result)
+          (remainder c.number-q.result) (remainder c.number-r.result) (remainder c.number-t.result)
+          (remainder c.four.result) refl (omega arith)
+          (adds_two a.s.now a.at (remainder c.number-p.result) (remainder c.number-q.result)
+          c.number-p.ensures.0 c.number-q.ensures.0) c.number-r.ensures.0 c.number-t.ensures.0
+          c.four.ensures.result_value;
+      upper_bound = c.four.ensures.upper_bound;
+    }

@@ -1,0 +1,33 @@
+-- `crc::words::lead` meets its contract: up to seven bytes are one number, eight more are two words behind it.
+-- Assumes nothing.
+use mathlib.Core.Path.{◌≡◌, refl}
+use Prim.Native.Nat.{◌+◌, ◌/◌, ◌%◌, ◌^◌}
+use native.Mathlib.Omega.{arith}
+use Rattle.crc.specs.Inner.{remainder}
+use Rattle.crc.proofs.WordLaws.{remainder_parts, adds_four, adds_only}
+use Rattle.crc.proofs.words.lead.Goals as goal
+
+pub returns-then-k-lt8 : goal.returns-then-k-lt8
+returns-then-k-lt8 c =
+    let a = c.args in
+    let w = c.number-w.result in
+    let all : a.k % 8 ≡ a.k = omega arith in record {
+      adds = adds_only a.s.now 0 a.k (remainder (w / 2 ^ 32)) (remainder (w % 2 ^ 32)) (remainder c.four.result)
+          (rw (← remainder_parts 32 w (omega arith) (omega arith)) (rw all at c.number-w.ensures.0))
+          c.four.ensures.result_value;
+      upper_bound = c.four.ensures.upper_bound;
+    }
+
+pub returns : goal.returns
+returns c =
+    let a = c.args in
+    let w = c.number-w.result in
+    let all : a.k % 8 + 8 ≡ a.k = omega arith in record {
+      adds = rw (← all)
+          (adds_four a.s.now 0 (a.k % 8) (a.k % 8) (a.k % 8 + 4) (remainder (w / 2 ^ 32))
+          (remainder (w % 2 ^ 32)) (remainder c.number-r.result) (remainder c.number-t.result)
+          (remainder c.four-2.result) (omega arith) refl
+          (rw (← remainder_parts 32 w (omega arith) (omega arith)) c.number-w.ensures.0) c.number-r.ensures.0
+          c.number-t.ensures.0 c.four-2.ensures.result_value);
+      upper_bound = c.four-2.ensures.upper_bound;
+    }
