@@ -1,4 +1,2 @@
 pub mod StepLaws
 pub mod WorkedExamples
-pub mod Walking
-pub mod Parts

@@ -21,7 +21,7 @@ use Rattle.frame.specs.declared.Frame.{Frame}
 use Rattle.frame.specs.Frames.{content_in, FrameAt}
 use Rattle.frame.specs.Judging.{judge_of}
 use Rattle.frame.specs.Writes.{writing_of}
-use Rattle.frame.specs.Changes.{Edit, changing, answers_of, edited, last_at}
+use Rattle.frame.specs.Changes.{Edit, changing, answers_of, edited, last_at, changing_of}
 use Rattle.frame.proofs.AcceptLaws.{judge_of_frame, judge_of-accepted, whole_frame}
 use Rattle.frame.proofs.WriteLaws.{writing_of_frame}
 use Rattle.frame.proofs.ChangeLaws.{change_answer, change_frame, change_behind}
@@ -31,15 +31,15 @@ pub changes_frame :
     → FrameAt f (changing f es s) z (edited es c)
 unfolding changing edited
 changes_frame [] at = at
-changes_frame (e ∷ es) at = changes_frame es (change_frame at e.place e.byte)
+changes_frame {f = f} {s = s} {z = z} {c = c} (e ∷ es) at = changes_frame {s = (changing_of f s e.place e.byte).memory} es (change_frame at e.place e.byte)
 
 pub changes_behind :
     {f : Format} {s : List ℕ} {z : ℕ} {c : List ℕ} (es : List Edit) → FrameAt f s z c
     → drop z (changing f es s) ≡ drop z s
 unfolding changing
 changes_behind [] at = refl
-changes_behind (e ∷ es) at =
-    changes_behind es (change_frame at e.place e.byte) ∙ change_behind at e.place e.byte
+changes_behind {f = f} {s = s} {z = z} {c = c} (e ∷ es) at =
+    changes_behind {s = (changing_of f s e.place e.byte).memory} es (change_frame at e.place e.byte) ∙ change_behind at e.place e.byte
 
 pub changes_write :
     (f : Format) (es : List Edit) (s : List ℕ) (z : ℕ) (c : List ℕ) → FrameAt f s z c

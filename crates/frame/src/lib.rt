@@ -1,6 +1,8 @@
 // Frames in formats A and B as bytes: read, write, change (EN 13757-4:2019, 12.2 to 12.5; document 01, "Frames",
 // "Changing a byte"). Refusals are those of crate `answers`.
 // What differs between the formats stands in `FormatA` and `FormatB`; all else is written once.
+#![tactic(auto)]
+
 ghost use Rattle.std.specs.Prelude.{◌≡◌, ◌≤◌};
 ghost use Rattle.answers.specs.Outcome.{Outcome};
 ghost use Rattle.frame.specs.Formats.{form_of, frame_size, size_for};

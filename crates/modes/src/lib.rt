@@ -1,4 +1,6 @@
 // The modes and the frame formats by the numbers that Tables 64 and 65 give them (EN 13757-4:2019, 14.2).
+#![tactic(auto)]
+
 ghost use Rattle.std.specs.Prelude.{◌≡◌};
 ghost use Rattle.modes.specs.Tables.{mode_number, mode_of, format_number, format_of};
 

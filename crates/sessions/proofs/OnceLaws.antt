@@ -12,7 +12,7 @@ use mathlib.Core.Path.{◌≡◌, refl, ap, sym, ◌∙◌}
 use Prim.Native.Nat.{ℕ, zero, suc, ◌<◌, ◌≤◌}
 use native.Mathlib.Nat.{eq-or-lt_of_le, lt_of_not-le}
 use native.Mathlib.Omega.{arith}
-use borrow.Author.Tests.{eqb-true, eq-eqb, not_true}
+use borrow.Author.Tests.{eqb-true, eq-eqb, not-true}
 use lib.Dec.{eqb}
 use lib.ListN.{length, get_or, length-append, get_or-append}
 use lib.Seq.{append_snoc, get_or-append_seam}
@@ -87,7 +87,7 @@ unlike_apart : (ms fs : List Meter) → unlike ms fs ≡ true → Apart (length 
 unfolding unlike
 unlike_apart ms [] h = λ i j p q r e. omega (arith, length-append ms [])
 unlike_apart ms (f ∷ fs) h =
-    let new = not_true _ (and_left _ _ h) in
+    let new = not-true _ (and_left _ _ h) in
     let later = unlike_apart (ms ++ (f ∷ [])) fs (and_right (not (holds f.address ms)) _ h) in
     let size : length (ms ++ (f ∷ [])) ≡ suc (length ms) = omega (arith, length-append ms (f ∷ [])) in
     apart_cons ms f fs new (rw (append_snoc ms f fs, size) at later)

@@ -7,7 +7,7 @@ use mathlib.Core.Bool.{Bool, true, false, not, ◌||◌, true≢false, or_assoc}
 use mathlib.Core.List.{List, [], ◌∷◌, ◌++◌, append_assoc}
 use mathlib.Core.Path.{◌≡◌, refl, sym, ◌∙◌}
 use Prim.Native.Nat.{ℕ}
-use borrow.Author.Tests.{eqb-true, eq-eqb, not_true}
+use borrow.Author.Tests.{eqb-true, eq-eqb, not-true}
 use lib.Dec.{eqb}
 use Rattle.ground.proofs.CaseLaws.{by_test, and_left, and_right}
 use Rattle.sessions.specs.declared.Meter.{Meter}
@@ -22,7 +22,7 @@ holds-append a (x ∷ ms) fs = rw (holds-append a ms fs) (sym (or_assoc (eqb x.a
 module _ (ms : List Meter) (f : Meter) (fs : List Meter) (h : unlike ms (f ∷ fs) ≡ true) where
   unlike_new : holds f.address ms ≡ false
   unfolding unlike
-  unlike_new = not_true _ (and_left (not (holds f.address ms)) (unlike (ms ++ (f ∷ [])) fs) h)
+  unlike_new = not-true _ (and_left (not (holds f.address ms)) (unlike (ms ++ (f ∷ [])) fs) h)
 
   unlike_later : unlike (ms ++ (f ∷ [])) fs ≡ true
   unfolding unlike

@@ -1,4 +1,6 @@
 // What the settings store keeps and answers (document 02, 9/14). No function: what is done with it stands in `store`.
+#![tactic(auto)]
+
 use answers::Refusal;
 use frame::Format;
 use modes::Mode;

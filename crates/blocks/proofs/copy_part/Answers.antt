@@ -21,7 +21,7 @@ loop-i-preserved c =
     let a = c.args in (
       omega arith,
       (
-        c.copy_eight.auto.1.1.0 ∙ at.invariant.1.0,
+        c.copy_eight.auto.dst ∙ at.invariant.1.0,
         c.copy_eight.ensures
             ∙ rw at.invariant.1.1
             (paste_more a.dst.now a.src.now a.at a.from at.i 8 (omega arith) (omega arith)),

@@ -40,7 +40,7 @@ loop-done-init c =
     record {
       below = omega (arith, c.smaller-done.ensures);
       long = refl;
-      fits = omega (arith, first-room (goal.at.loop-done-init c).After-smaller-done, c.put_first.auto.1.1.1.0);
+      fits = omega (arith, first-room (goal.at.loop-done-init c).After-smaller-done, c.put_first.auto.out);
       same = refl;
     }
 
@@ -51,10 +51,10 @@ pub put_span-requires : goal.put_span-requires
 put_span-requires c = (omega (arith, c.smaller-k.ensures), omega (arith, room (goal.at.put_span-requires c).After-smaller-k))
 
 pub overflow_add-at-in-loop-done : goal.overflow_add-at-in-loop-done
-overflow_add-at-in-loop-done c = omega (arith, room (goal.at.overflow_add-at-in-loop-done c).After-smaller-k, c.put_span.auto.1.1.1.0)
+overflow_add-at-in-loop-done c = omega (arith, room (goal.at.overflow_add-at-in-loop-done c).After-smaller-k, c.put_span.auto.out)
 
 pub overflow_add-at-in-loop-done-2 : goal.overflow_add-at-in-loop-done-2
-overflow_add-at-in-loop-done-2 c = omega (arith, room (goal.at.overflow_add-at-in-loop-done-2 c).After-smaller-k, c.put_span.auto.1.1.1.0)
+overflow_add-at-in-loop-done-2 c = omega (arith, room (goal.at.overflow_add-at-in-loop-done-2 c).After-smaller-k, c.put_span.auto.out)
 
 pub overflow_add-done : goal.overflow_add-done
 overflow_add-done c = omega (arith, c.smaller-k.ensures)
@@ -65,7 +65,7 @@ loop-done-smaller c = omega (arith, c.smaller-k.ensures)
 pub loop-done-preserved : goal.loop-done-preserved
 loop-done-preserved c =
     putting_step c.loop-done.invariant (omega arith) (omega arith) c.smaller-k.ensures
-    c.put_span.auto.1.1.1.0 c.put_span.ensures
+    c.put_span.auto.out c.put_span.ensures
 
 pub returns : goal.returns
 returns c =

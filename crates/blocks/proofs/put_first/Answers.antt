@@ -9,7 +9,7 @@ pub copy_part-requires : goal.copy_part-requires
 copy_part-requires c = simp length-set (omega arith)
 
 pub seal_at-requires : goal.seal_at-requires
-seal_at-requires c = omega (arith, simp length-set at c.copy_part.auto.1.1.1.0)
+seal_at-requires c = omega (arith, simp length-set at c.copy_part.auto.dst)
 
 pub returns : goal.returns
 returns c =

@@ -5,7 +5,7 @@ use Rattle.locating.proofs.ReduceLaws.{next_column}
 use Rattle.locating.proofs.reducing.reduce.Goals as goal
 
 pub loop-column-init : goal.loop-column-init
-loop-column-init c = c.requires.1.1
+loop-column-init c = c.requires.from_bound
 
 pub returns-then-sum-ne0 : goal.returns-then-sum-ne0
 returns-then-sum-ne0 c =

@@ -12,17 +12,16 @@ use Rattle.locating.proofs.reducing.step.Goals as goal
 -- the polynomial that is kept for the column
 kept :
     (c : After-p-2-1)
-    → let a = ().args in
+    → let a = c.args in
     let lead = get_or a.leads.now a.column 0 in
-    Slot a.s.now a.column a.low lead (get_or a.t4 a.column [])
+    Slot a.s.now a.column a.low lead (get_or a.rows a.column [])
 kept c =
-    let start = () in
     let lead = pos_of_ne-zero c.if-lead-eq0.false in
-    start.pre.1.0.1.slot start.args.column start.pre.1.1.0 lead
+    c.requires.s_len.1.slot c.args.column c.requires.column_bound.0 lead
 
 pub returns-then-sum-eq0 : goal.returns-then-sum-eq0
 returns-then-sum-eq0 c =
-    let at = c.requires.1.1.1 in
+    let at = c.requires.column_bound.1 in
     record {
       reducing = at;
       here = sym (combined_part _ _ at.poly) ∙ sym c.combine-sum.ensures ∙ c.if-sum-eq0.true;
@@ -31,7 +30,7 @@ returns-then-sum-eq0 c =
 
 pub returns-then-lead-eq0 : goal.returns-then-lead-eq0
 returns-then-lead-eq0 c =
-    let at = c.requires.1.1.1 in
+    let at = c.requires.column_bound.1 in
     record {
       reducing = at;
       here = sym (combined_part _ _ at.poly) ∙ sym c.combine-sum.ensures;
@@ -43,11 +42,11 @@ slice_bounds-clear-end c = omega (arith, (kept (goal.at.slice_bounds-clear-end c
 
 pub clear-requires : goal.clear-requires
 clear-requires c =
-    let count = (kept (goal.at.clear-requires c).After-p-2-1).count ∙ sym c.requires.1.1.1.poly.count in
-    (c.requires.0, (count, pos_of_ne-zero c.if-lead-eq0.false))
+    let count = (kept (goal.at.clear-requires c).After-p-2-1).count ∙ sym c.requires.column_bound.1.poly.count in
+    record { tables_ok = c.requires.tables_ok; p_len = (count, pos_of_ne-zero c.if-lead-eq0.false) }
 
 pub returns : goal.returns
 returns c =
-    let at = c.requires.1.1.1 in
+    let at = c.requires.column_bound.1 in
     let here = sym (combined_part _ _ at.poly) ∙ sym c.combine-sum.ensures in
     cleared at (kept (goal.at.returns c).After-p-2-1) c.clear.ensures here c.args.leads.now

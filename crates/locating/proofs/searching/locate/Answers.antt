@@ -6,7 +6,7 @@ use Rattle.locating.proofs.searching.locate.Goals as goal
 pub reduce-at-requires : goal.reduce-at-requires
 reduce-at-requires c =
     let s = c.args.s.now in
-    (c.requires.0, ((c.requires.1, no_slots s), (omega arith, first-reducing s)))
+    record { tables_ok = c.requires.tables_ok; s_len = (c.requires.s_len, no_slots s); from_bound = (omega arith, first-reducing s) }
 
 pub loop-at-init : goal.loop-at-init
 loop-at-init c = search_start c.reduce-at.ensures
@@ -34,16 +34,14 @@ slice_bounds-reduce-end-in-loop-at-2 c =
 pub reduce-at-requires-in-loop-at : goal.reduce-at-requires-in-loop-at
 reduce-at-requires-in-loop-at c =
     let at = c.loop-at.invariant in
-    let inside = c.loop-at-test.true in (
-      c.requires.0,
-      (
-        (c.requires.1, kept_slots at inside),
-        (
-          omega (arith, c.before-in-loop-at.ensures, at.reduced.within),
-          next-reducing at inside c.raise.ensures c.before-in-loop-at.ensures,
-        ),
-      ),
-    )
+    let inside = c.loop-at-test.true in record {
+      tables_ok = c.requires.tables_ok;
+      s_len = (c.requires.s_len, kept_slots at inside);
+      from_bound = (
+        omega (arith, c.before-in-loop-at.ensures, at.reduced.within),
+        next-reducing at inside c.raise.ensures c.before-in-loop-at.ensures,
+      );
+    }
 
 pub loop-at-smaller : goal.loop-at-smaller
 loop-at-smaller c =
