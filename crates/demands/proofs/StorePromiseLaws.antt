@@ -21,7 +21,7 @@ use Rattle.ground.proofs.CaseLaws.{by_test, zero_not_one}
 use Rattle.sessions.specs.Meters.{Store, Result, Refuse, Keep, holds}
 use Rattle.sessions.specs.Changes.{empty_store, restored, restored_by}
 use Rattle.sessions.specs.StoreFile.{bytes_of, size_of, memory_size, memory_of, file_of}
-use Rattle.sessions.specs.StoreCalls.{◌andThen◌, leaves, kept, emptying, copied, writing_store, restoring, found}
+use Rattle.sessions.specs.StoreCalls.{◌and_then◌, leaves, kept, emptying, copied, writing_store, restoring, found}
 use Rattle.sessions.specs.Valid.{Valid, Within, IsFile}
 use Rattle.sessions.specs.History.{Call, after, after_all, InRange, InRanges, NoneHeld}
 use Rattle.sessions.proofs.ExactLaws.{memory_of_exactly, file_of_exactly}

@@ -23,7 +23,7 @@ use Rattle.sessions.specs.declared.Lookup.{Lookup}
 use Rattle.sessions.specs.Meters.{Store, Result, Refuse, Keep, meter_of}
 use Rattle.sessions.specs.Changes.{with_meter, set_to, heard, next, added, hearing, issued, allowing, restored, restored_by}
 use Rattle.sessions.specs.StoreFile.{size_of, memory_size}
-use Rattle.sessions.specs.StoreCalls.{◌andThen◌, kept, storing, emptying, adding, adding_by, hearing_in, issuing, restoring, setting_allowance, copied, writing_store, found, looking_up, allowed, allowance_in}
+use Rattle.sessions.specs.StoreCalls.{◌and_then◌, kept, storing, emptying, adding, adding_by, hearing_in, issuing, restoring, setting_allowance, copied, writing_store, found, looking_up, allowed, allowance_in}
 use Rattle.sessions.specs.Valid.{Valid, Within}
 use Rattle.sessions.proofs.PutLaws.{meter_of-address, meter_of_put}
 use Rattle.demands.specs.Rules.{Rule, ◌when◌else◌, Judged, JudgedLent}

@@ -170,7 +170,7 @@ module _ (z : ℕ) (p : List ℕ) (bytes : Bytes p) (whole : z + 32 ≤ length p
   pub corrects_code : Corrects (take z p) checks → CodeBlock (take (z + 32) p)
   corrects_code c =
       subst CodeBlock (sym whole_word)
-      ((fill_code (223 - length (take z p)) (take z p ++ checks)).0 c.code-word)
+      ((fill_code (223 - length (take z p)) (take z p ++ checks)).0 c.code_word)
 
   pub code_corrects : CodeBlock (take (z + 32) p) → Corrects (take z p) checks
   code_corrects c =

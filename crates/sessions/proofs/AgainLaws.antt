@@ -5,7 +5,7 @@
 -- Assumes nothing.
 use mathlib.Core.Bool.{true, false, true≢false, or-true}
 use mathlib.Core.List.{List, [], ◌∷◌}
-use mathlib.Core.Path.{◌≡◌, refl, sym, ◌∙◌}
+use mathlib.Core.Path.{◌≡◌, refl, sym, ap, ◌∙◌}
 use Prim.Native.Nat.{ℕ}
 use native.Mathlib.Omega.{arith}
 use borrow.Author.Tests.{eqb-true, eq-eqb}
@@ -22,7 +22,11 @@ pub put_own : (a : ℕ) (ms : List Meter) → holds a ms ≡ true → put a (met
 unfolding put holds meter_of
 put_own a [] h = absurd (true≢false (sym h))
 put_own a (x ∷ ms) h =
-    by_test (eqb x.address a) (λ e. rw e) (λ e. rw (e, put_own a ms (rw e at h)))
+    by_test (eqb x.address a) (λ e. rw e)
+    (λ e. let behind : meter_of a (x ∷ ms) ≡ meter_of a ms = rw e in
+    let same : put a (meter_of a (x ∷ ms)) ms ≡ ms =
+    ap (λ (m : Meter). put a m ms) behind ∙ put_own a ms (rw e at h) in
+    rw e (ap (λ (ys : List Meter). x ∷ ys) same))
 
 -- every entry of the file makes of its meter what is held
 abbrev Settled : List Meter → List Meter → Type 0

@@ -10,7 +10,7 @@ use lib.ListN.{length}
 use Rattle.answers.specs.declared.Refusal.{Refusal}
 use Rattle.sessions.specs.Meters.{Store, Result, Refuse, Keep}
 use Rattle.sessions.specs.StoreFile.{memory_size, memory_of}
-use Rattle.sessions.specs.StoreCalls.{◌andThen◌, leaves, kept}
+use Rattle.sessions.specs.StoreCalls.{◌and_then◌, leaves, kept}
 use Rattle.sessions.specs.History.{Call, Add, AddBy, Hear, Issue, Restore, Allow, after}
 use Rattle.sessions.proofs.StepLaws.{on_store}
 use Rattle.sessions.proofs.TestLaws.{cond_refuse}

@@ -18,7 +18,7 @@ use Rattle.modes.specs.declared.Mode.{Mode}
 use Rattle.sessions.specs.Meters.{Store, Refuse, Keep, meter_of, holds, put}
 use Rattle.sessions.specs.Changes.{empty_store, added, hearing, issued, restored, restored_by}
 use Rattle.sessions.specs.StoreFile.{bytes_of, memory_of, meters_bytes, meters_in, all_right, unlike}
-use Rattle.sessions.specs.StoreCalls.{◌andThen◌}
+use Rattle.sessions.specs.StoreCalls.{◌and_then◌}
 
 -- a store with the meter 1 alone, its last number and its unsure mark
 abbrev holding : ℕ → Bool → Store

@@ -18,7 +18,7 @@ use Rattle.modes.specs.Tables.{mode_of, format_of}
 use Rattle.sessions.specs.Meters.{Store, Result, Refuse, Keep}
 use Rattle.sessions.specs.Changes.{added, hearing, issued, allowing, restored_by}
 use Rattle.sessions.specs.StoreFile.{file_of}
-use Rattle.sessions.specs.StoreCalls.{◌andThen◌, added_by}
+use Rattle.sessions.specs.StoreCalls.{◌and_then◌, added_by}
 use Rattle.sessions.specs.History.{Call, Add, AddBy, Hear, Issue, Restore, Allow}
 use Rattle.sessions.proofs.TestLaws.{cond_refuse}
 use Rattle.sessions.proofs.KeepingLaws as keeping

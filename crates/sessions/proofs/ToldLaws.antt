@@ -18,7 +18,7 @@ use Rattle.sessions.specs.declared.Value.{Value}
 use Rattle.sessions.specs.Meters.{Store, Result, Refuse, Keep}
 use Rattle.sessions.specs.Changes.{hearing, issued}
 use Rattle.sessions.specs.StoreFile.{size_of, memory_of}
-use Rattle.sessions.specs.StoreCalls.{◌andThen◌, kept, issuing}
+use Rattle.sessions.specs.StoreCalls.{◌and_then◌, kept, issuing}
 use Rattle.sessions.specs.History.{Call, Add, AddBy, Hear, Issue, Restore, Allow, heard_by, issued_by, told_by, Above}
 use Rattle.sessions.specs.History.{if_accepted, if_issued}
 use Rattle.sessions.proofs.AboveLaws.{above-nil, above-cons, above-append}

@@ -22,7 +22,7 @@ use Rattle.sessions.specs.declared.Value.{Value}
 use Rattle.sessions.specs.Meters.{Store, Refuse, Keep, stranger, meter_of, holds, put}
 use Rattle.sessions.specs.Changes.{empty_store, added, hearing, issued, restored, restored_by}
 use Rattle.sessions.specs.StoreFile.{meters_bytes, meters_in, all_right, unlike}
-use Rattle.sessions.specs.StoreCalls.{◌andThen◌, emptying, issuing}
+use Rattle.sessions.specs.StoreCalls.{◌and_then◌, emptying, issuing}
 use Rattle.sessions.specs.History.{Call, Add, Hear, Issue, Allow, after_all, told_by, over}
 
 abbrev meter : ℕ → Mode → ℕ → Bool → Meter

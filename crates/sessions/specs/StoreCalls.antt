@@ -19,8 +19,8 @@ use Rattle.sessions.specs.Meters.{Store, Result, Refuse, Keep, meter_of, holds}
 use Rattle.sessions.specs.Changes.{empty_store, added, hearing, issued, allowing, restored_by}
 use Rattle.sessions.specs.StoreFile.{bytes_of, size_of, file_of, memory_size, memory_of}
 
-infixl 20 ◌andThen◌
-abbrev pub ◌andThen◌ : Result → (Store → Result) → Result
+infixl 20 ◌and_then◌
+abbrev pub ◌and_then◌ : Result → (Store → Result) → Result
 Refuse why and_then call = Refuse why
 Keep st and_then call = call st
 

@@ -25,7 +25,7 @@ use Rattle.sessions.specs.declared.Meter.{Meter}
 use Rattle.sessions.specs.Meters.{Store, Result, Refuse, Keep, stranger, meter_of, holds}
 use Rattle.sessions.specs.Changes.{with_meter}
 use Rattle.sessions.specs.StoreFile.{meter_bytes, meter_in, meters_in, unlike, memory_of}
-use Rattle.sessions.specs.StoreCalls.{◌andThen◌, kept, leaves}
+use Rattle.sessions.specs.StoreCalls.{◌and_then◌, kept, leaves}
 use Rattle.sessions.proofs.ExactLaws.{memory_of_exactly, memory_of_is, leaves_same}
 use Rattle.sessions.proofs.MetersInLaws.{length-meters_in, get_d_meters_in}
 use Rattle.sessions.proofs.OnceLaws.{unlike_once}

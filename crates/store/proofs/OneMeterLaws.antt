@@ -25,7 +25,7 @@ use Rattle.sessions.specs.declared.Lookup.{Lookup}
 use Rattle.sessions.specs.Meters.{Store, Result, Refuse, Keep, meter_of, put}
 use Rattle.sessions.specs.Changes.{with_meter, set_to, heard, added, hearing, issued}
 use Rattle.sessions.specs.StoreFile.{meter_bytes, meter_in, meters_in, memory_of, size_of}
-use Rattle.sessions.specs.StoreCalls.{◌andThen◌, kept, storing, adding, hearing_in, issuing, looking_up, found}
+use Rattle.sessions.specs.StoreCalls.{◌and_then◌, kept, storing, adding, hearing_in, issuing, looking_up, found}
 use Rattle.sessions.proofs.PutLaws.{meter_of_put, meter_of-address}
 use Rattle.store.specs.Inner.{place_of, known_at, with_number}
 use Rattle.store.proofs.PutBytesLaws.{length_put}

@@ -25,7 +25,7 @@ use Rattle.sessions.specs.declared.Value.{Value}
 use Rattle.sessions.specs.Meters.{Result, Refuse, Keep}
 use Rattle.sessions.specs.Changes.{empty_store, allowing}
 use Rattle.sessions.specs.StoreFile.{meters_bytes, bytes_of, size_of, memory_of}
-use Rattle.sessions.specs.StoreCalls.{◌andThen◌, kept, leaves, emptying, setting_allowance, copied, writing_store, allowed, allowance_in, adding, adding_by}
+use Rattle.sessions.specs.StoreCalls.{◌and_then◌, kept, leaves, emptying, setting_allowance, copied, writing_store, allowed, allowance_in, adding, adding_by}
 use Rattle.sessions.proofs.LeavesLaws.{length_bytes_of}
 use Rattle.store.specs.Inner.{unlisted_by}
 use Rattle.store.proofs.KeptLaws.{Kept}

@@ -4,7 +4,7 @@ use native.Mathlib.Omega.{arith}
 use Rattle.answers.specs.declared.Written.{Written}
 use Rattle.sessions.specs.Changes.{restored_by}
 use Rattle.sessions.specs.StoreFile.{file_of}
-use Rattle.sessions.specs.StoreCalls.{◌andThen◌}
+use Rattle.sessions.specs.StoreCalls.{◌and_then◌}
 use Rattle.store.proofs.IndexLaws.{indexed_none}
 use Rattle.store.proofs.KeptLaws.{refused_memory}
 use borrow.Author.Rules.{rules}

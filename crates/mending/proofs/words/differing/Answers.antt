@@ -1,0 +1,20 @@
+use Prim.Native.Nat.{◌-◌}
+use native.Mathlib.Omega.{arith}
+use Rattle.mending.proofs.WordLaws.{counting_start, counting_next, counting_end}
+use Rattle.mending.proofs.words.differing.Goals as goal
+
+pub loop-i-init : goal.loop-i-init
+loop-i-init c = counting_start _ _
+
+pub overflow_add-count : goal.overflow_add-count
+overflow_add-count c = omega (arith, c.loop-i.invariant.few, c.unlike-count.ensures.1)
+
+pub loop-i-preserved : goal.loop-i-preserved
+loop-i-preserved c =
+    counting_next _ _ c.requires c.loop-i.invariant c.loop-i-test.true
+    c.unlike-count.ensures.0 c.unlike-count.ensures.1
+
+pub returns : goal.returns
+returns c =
+    let held = c.loop-i.invariant in
+    (counting_end _ _ held c.loop-i-test.false, omega (arith, held.few, held.within))
