@@ -4,6 +4,8 @@
 // `s` is what is read, `d` what is lent, `v` the row of results. A module has the name of the crate that it calls and
 // `_calls`, since no module may have a crate's own name.
 
+#![tactic(auto)]
+
 mod answers_calls; // answers_calls.rt: refusals and rows of one result, and what every writer tells
 mod crc_calls; // crc_calls.rt: the block check and its update
 mod line_calls; // line_calls.rt: the line codes alone

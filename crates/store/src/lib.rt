@@ -1,6 +1,8 @@
 // The settings store in memory that the caller owns (document 02, 9/14): what it holds and what each call makes of it
 // stands in `sessions`.
 // Each call judges the whole memory first; one on a meter finds it and changes its twenty bytes where they stand.
+#![tactic(auto)]
+
 mod meters; // meters.rt: one meter: its twenty bytes, and what becomes of it
 mod places; // places.rt: where a meter stands among others
 mod judging; // judging.rt: whether bytes are a store

@@ -1,6 +1,6 @@
 -- `mending::proposing::propose` meets its contract. Assumes nothing.
 use native.Mathlib.Omega.{arith}
-use Rattle.proposals.proofs.PlacedLaws.{Placed, placed, refused_alike, length_word, proposal_put, again_room, placed_again}
+use Rattle.proposals.proofs.PlacedLaws.{Placed, placed, refused_alike, length_word, room_in, proposal_put, again_room, placed_again}
 use Rattle.mending.proofs.proposing.propose.Goals.{In-Accepted}
 use Rattle.mending.proofs.proposing.propose.Goals as goal
 
@@ -12,6 +12,9 @@ word :
 word c =
     let a = c.args in
     placed 0 a.f a.s.now a.out.now (rw c.in-Accepted.is at c.receive.ensures)
+
+pub slice_bounds-mend_sixteen-end : goal.slice_bounds-mend_sixteen-end
+slice_bounds-mend_sixteen-end c = room_in (word (goal.at.slice_bounds-mend_sixteen-end c).In-Accepted)
 
 pub mend_sixteen-requires : goal.mend_sixteen-requires
 mend_sixteen-requires c =

@@ -1,6 +1,6 @@
 -- `mending::proposing::propose_one` meets its contract. Assumes nothing.
 use native.Mathlib.Omega.{arith}
-use Rattle.proposals.proofs.PlacedLaws.{Placed, placed, refused_alike, length_word, proposal_put}
+use Rattle.proposals.proofs.PlacedLaws.{Placed, placed, refused_alike, length_word, room_in, proposal_put}
 use Rattle.mending.proofs.proposing.propose_one.Goals.{In-Accepted}
 use Rattle.mending.proofs.proposing.propose_one.Goals as goal
 
@@ -12,6 +12,9 @@ word :
 word c =
     let a = c.args in
     placed 0 a.f a.s.now a.out.now (rw c.in-Accepted.is at c.receive.ensures)
+
+pub slice_bounds-mend_one-end : goal.slice_bounds-mend_one-end
+slice_bounds-mend_one-end c = room_in (word (goal.at.slice_bounds-mend_one-end c).In-Accepted)
 
 pub mend_one-requires : goal.mend_one-requires
 mend_one-requires c =

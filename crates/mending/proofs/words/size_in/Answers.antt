@@ -27,7 +27,7 @@ returns-in-Refused c =
     let a = c.args in
     sym
     (size_in_bad a.f a.s.now c.if-s-lt1.false
-    (sym c.frame_size_is.ensures ∙ c.in-Refused.is))
+    (sym c.frame_size.ensures ∙ c.in-Refused.is))
 
 pub returns-else-size-gt-LONGEST : goal.returns-else-size-gt-LONGEST
 returns-else-size-gt-LONGEST c =

@@ -1,0 +1,22 @@
+-- `keeping::add` meets its contract: the memory is judged first. Assumes nothing.
+use mathlib.Core.Path.{◌∙◌, sym}
+use native.Mathlib.Omega.{arith}
+use Rattle.answers.specs.declared.Written.{Written}
+use Rattle.sessions.specs.Changes.{added}
+use Rattle.store.proofs.IndexLaws.{indexed_none}
+use Rattle.store.proofs.KeptLaws.{refused_memory}
+use Rattle.store.proofs.keeping.add.Goals as goal
+
+pub in_memory-requires : goal.in_memory-requires
+in_memory-requires c = (omega arith, indexed_none c.args.store.now 8)
+
+pub add_to-requires : goal.add_to-requires
+add_to-requires c =
+    let told = c.in_memory.ensures in
+    (sym told.0 ∙ c.in-Meters.is, (omega arith, told.1 _ c.in-Meters.is))
+
+pub returns-in-Refused : goal.returns-in-Refused
+returns-in-Refused c =
+    let a = c.args in
+    refused_memory a.store.now c.in_memory.ensures.0 c.in-Refused.is Written.Refused _
+    (added a.address a.mode a.format)

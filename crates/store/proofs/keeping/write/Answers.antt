@@ -1,0 +1,21 @@
+-- `keeping::write` meets its contract: the memory is judged first. Assumes nothing.
+use mathlib.Core.Path.{◌∙◌, ap, sym}
+use native.Mathlib.Omega.{arith}
+use Rattle.store.proofs.IndexLaws.{indexed_none}
+use Rattle.sessions.specs.StoreCalls.{copied}
+use Rattle.sessions.specs.Meters.{Result}
+use Rattle.store.proofs.KeptLaws.{refused_is}
+use Rattle.store.proofs.keeping.write.Goals as goal
+
+pub in_memory-requires : goal.in_memory-requires
+in_memory-requires c = (omega arith, indexed_none c.args.store.now 8)
+
+pub write_from-requires : goal.write_from-requires
+write_from-requires c =
+    sym c.in_memory.ensures.0 ∙ c.in-Meters.is
+
+pub returns-in-Refused : goal.returns-in-Refused
+returns-in-Refused c =
+    let a = c.args in
+    sym (ap (λ (r : Result). copied r a.out.now)
+    (refused_is a.store.now c.in_memory.ensures.0 c.in-Refused.is))

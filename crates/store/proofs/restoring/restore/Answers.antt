@@ -1,0 +1,26 @@
+-- `restoring::restore` meets its contract: the memory is judged first. Assumes nothing.
+use mathlib.Core.Path.{◌∙◌, sym}
+use native.Mathlib.Omega.{arith}
+use Rattle.answers.specs.declared.Written.{Written}
+use Rattle.sessions.specs.Changes.{restored_by}
+use Rattle.sessions.specs.StoreFile.{file_of}
+use Rattle.sessions.specs.StoreCalls.{◌and_then◌}
+use Rattle.store.proofs.IndexLaws.{indexed_none}
+use Rattle.store.proofs.KeptLaws.{refused_memory}
+use Rattle.store.proofs.restoring.restore.Goals as goal
+
+pub in_memory-requires : goal.in_memory-requires
+in_memory-requires c =
+    let a = c.args in
+    (omega arith, indexed_none a.store.now 8)
+
+pub restore_to-requires : goal.restore_to-requires
+restore_to-requires c =
+    let told = c.in_memory.ensures in
+    (sym told.0 ∙ c.in-Meters.is, (omega arith, told.1 _ c.in-Meters.is))
+
+pub returns-in-Refused : goal.returns-in-Refused
+returns-in-Refused c =
+    let a = c.args in
+    refused_memory a.store.now c.in_memory.ensures.0 c.in-Refused.is Written.Refused _
+    (λ st. file_of a.file.now and_then (λ backup. restored_by backup st))
