@@ -1,35 +1,55 @@
 // Lists the channels of a mode N band in hertz (document 01, "Mode N channels"). What an input names and which lines
 // its list has is proved of `channels::band_of` and `channels::line_at`; this program reads and prints.
+#![tactic(auto)]
+
+ghost use Rattle.std.specs.Prelude.{◌<◌, length, take, IfOk};
+ghost use Rattle.std.specs.Io.{ReadsAtMost};
+ghost use Rattle.std.specs.Io.KnownBytes.{Consumes, IsAtEnd};
 
 use channels::{Band, Line};
-use libc::{STDIN_FILENO, STDOUT_FILENO};
+use std::io;
+use std::io::Read;
 
-fn print_line(index: usize, channel: usize, hz: u64) {
-    io::print_decimal(STDOUT_FILENO, index as u64);
-    io::write_all(STDOUT_FILENO, b" ");
-    io::print_decimal(STDOUT_FILENO, channel as u64);
-    io::write_all(STDOUT_FILENO, b" ");
-    io::print_decimal(STDOUT_FILENO, hz);
-    io::write_all(STDOUT_FILENO, b"\n");
+// Reads until the buffer is full or the input ends, and answers how many bytes it put at the buffer's start. What an
+// error leaves behind is not promised.
+fn read_full<R: Read>(input: &mut R, buffer: &mut [u8]) -> io::Result<usize>
+    ensures bound { ReadsAtMost result buffer.new }
+    ensures bytes { IfOk result (λ n. Consumes (R.remaining input.old) (R.remaining input.new) (take n buffer.new)) }
+    ensures end { IfOk result (λ n. n < length buffer.new → IsAtEnd (R.remaining input.new)) }
+{
+    let mut done = 0;
+    while done < buffer.len() {
+        let n = input.read(&mut buffer[done..])?;
+        if n == 0 {
+            break;
+        }
+        done += n;
+    }
+    Ok(done)
 }
 
-fn print_band(band: Band) {
-    io::write_all(STDOUT_FILENO, b"index channel hz\n");
+fn print_line(rt: &impl Print, index: usize, channel: usize, hz: u64) -> io::Result<()> {
+    println!(rt; "{index} {channel} {hz}")
+}
+
+fn print_band(rt: &impl Print, band: Band) -> io::Result<()> {
+    println!(rt; "index channel hz")?;
     for k in 0..channels::lines_of(band) {
         if let Line::Channel(index, channel, hz) = channels::line_at(band, k) {
-            print_line(index, channel, hz);
+            print_line(rt, index, channel, hz)?;
         }
     }
+    Ok(())
 }
 
-fn main() {
+fn main(rt: HostRuntime) -> io::Result<()> {
     // a third byte tells a longer input from a letter and a line feed
     let mut buffer = [0u8; 3];
-    let n = io::read_full(STDIN_FILENO, &mut buffer);
+    let n = read_full(&mut rt.stdin(), &mut buffer)?;
     let band = channels::band_of(&buffer[..n]);
     if let Band::NoSuch = band {
-        io::write_all(STDOUT_FILENO, b"no such band\n");
+        println!(rt; "no such band")
     } else {
-        print_band(band);
+        print_band(&rt, band)
     }
 }
