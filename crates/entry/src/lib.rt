@@ -9,6 +9,8 @@
 // parameters of one type, under their own equations.
 // Nothing here is public and nothing calls it: it is there to be proved.
 
+#![tactic(auto)]
+
 mod judged; // judged.rt: the entry points of the crates below, each judged by its ladder
 mod listed; // listed.rt: channels and lines of a band, each number exactly in its case
 mod named; // named.rt: letters and hard or soft, each exactly in its case

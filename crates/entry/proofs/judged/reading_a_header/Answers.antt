@@ -1,0 +1,6 @@
+-- `entry::judged::reading_a_header`: what the page says of the definition that the call answers by.
+use Rattle.demands.proofs.Demands.{meter-numbers}
+use Rattle.entry.proofs.judged.reading_a_header.Goals as goal
+
+pub returns : goal.returns
+returns c = rw c.read.ensures (meter-numbers.reading_a_header c.args.s.now)
