@@ -4,7 +4,7 @@ archive=target/staticlib/libkusikhut.a
 
 # The proved library, built where it is missing or older than its sources.
 fresh_library() {
-    if [ ! -f "$archive" ] || [ -n "$(find crates crates.txt -newer "$archive" -print -quit)" ]; then
+    if [[ $(tools/build --check) == library* ]]; then
         mkdir -p target
         tools/library >target/build.log 2>&1 || { cat target/build.log >&2; exit 1; }
     fi

@@ -1,7 +1,7 @@
 /* Kusikhut: the proved wireless M-Bus link layer (EN 13757-4:2019) for C.
  *
  * Link with libkusikhut.a: installed, `pkg-config --cflags --libs kusikhut` tells how; in the sources, `tools/build`
- * writes it to target/staticlib/ for the machine that it runs on. examples/collector.c of the sources is a first program.
+ * writes it to target/staticlib/, for x86-64. examples/collector.c of the sources is a first program.
  *
  * What a caller must see to, and nothing else:
  *  - Every pointer is valid for its length and not NULL, also where the length is 0.

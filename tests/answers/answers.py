@@ -12,8 +12,8 @@ from pathlib import Path
 PAGE = Path("docs/RULES.md")
 SOURCE = Path("crates/answers/specs/Refusals.antt")
 ROW = re.compile(r"\| *(\d+) *\| *`([a-z-]+)` *\| *(?:`(\w+)`)? *\| *(?:`(\w+)`)? *\| *\S")
-NUMBER = re.compile(r"^numberOf \(?(\w+)(?: \w+)?\)? = (\d+)$", re.M)
-VALUE = re.compile(r"^valueOf \(?(\w+)(?: \w+)?\)? = (\w+)$", re.M)
+NUMBER = re.compile(r"^number_of \(?(\w+)(?: \w+)?\)? = (\d+)$", re.M)
+VALUE = re.compile(r"^value_of \(?(\w+)(?: \w+)?\)? = (\w+)$", re.M)
 
 
 def on_the_page(text):
@@ -25,7 +25,7 @@ def on_the_page(text):
 def in_the_source(text):
     """The cases in the same form, acceptance with them. A value that is 0 is none."""
     values = {case: "" if value == "0" else value for case, value in VALUE.findall(text)}
-    return [(0, "", "")] + [(int(number), case, values.get(case, "no valueOf")) for case, number in NUMBER.findall(text)]
+    return [(0, "", "")] + [(int(number), case, values.get(case, "no value_of")) for case, number in NUMBER.findall(text)]
 
 
 def differences(page, source):
@@ -48,8 +48,8 @@ def self_test(page, source):
         "a row has another number": (page.replace(row, row.replace("| 3 |", "| 15 |", 1)), source),
         "a row names another value": (page.replace(row, row.replace("`block`", "`word`")), source),
         "a word stands twice": (page.replace("`too-short`", "`no-room`"), source),
-        "a case has no row": (page, source.replace("numberOf NoRoom = 4", "numberOf NoRoom = 4\nnumberOf Other = 15")),
-        "a case has another number": (page, source.replace("numberOf NoRoom = 4", "numberOf NoRoom = 15")),
+        "a case has no row": (page, source.replace("number_of NoRoom = 4", "number_of NoRoom = 4\nnumber_of Other = 15")),
+        "a case has another number": (page, source.replace("number_of NoRoom = 4", "number_of NoRoom = 15")),
         "the page is empty": ("", source),
         "the source is empty": (page, ""),
     }

@@ -35,10 +35,11 @@ DEMANDS, STARRED = "crates/demands/specs/Demands.antt", "crates/demands/proofs/S
 PUBLISHED, README = Path("docs/BELIEVED.md"), Path("README.md")
 # What is promised of a frame: demand 2 in bytes and chips, and demand 3.
 OF_FRAMES = ("InBytes", "InChips", "Changes")
-MARKS = r"(?:(?:abbrev|unfoldable|pub|opaque) )*"
+MARKS = r"(?:(?:pattern|abbrev|unfoldable|pub|opaque) )*"
 SIGNATURE = re.compile(rf"^{MARKS}([^\s(){{}};,.]+)\s*:(?:\s|$)")
 TYPE = re.compile(rf"^{MARKS}(?:record|data) ([^\s(){{}}]+)")
 IMPORT = re.compile(r"^(?:ghost )?(?:unfoldable )?(?:pub )?use ([^\s{;]+?)(?:\.\{([^}]*)\}| as ([^\s;]+))?;?$")
+GROUP = re.compile(r"^(?:pub )?use ([\w:]+)::\{([^{}]*)\};", re.M)
 WORD = re.compile(r"[^\s(){}⌜⌝⟦⟧,;]+")
 LABEL = re.compile(r"([{;]\s*)[^\s=;{}()]+ = |^(\s+)(?:pub )?[^\s:(){}]+ :(?=\s|$)", re.M)
 BINDERS = [re.compile(x) for x in (r"[({]([^\s(){}:]+(?: [^\s(){}:]+)*) :", r"λ ([^.()]+)\.", r"\blet ([^\s=:(]+)")]
@@ -66,6 +67,10 @@ def imports(path):
             names[short or module.split("::")[-1]] = (module, "")
         else:
             modules[short or module.split(".")[-1]] = module
+    for module, listed in GROUP.findall("\n".join(code(path))):
+        for part in filter(None, (x.strip() for x in listed.split(","))):
+            name, _, other = part.partition(" as ")
+            names[other or name.split("::")[-1]] = (f"{module}::{name}", "")
     return names, modules
 
 
@@ -117,19 +122,20 @@ class House:
         self.defined, self.types, self.files, self.made = {}, {}, {}, {}
         self.public, self.inner, self.open = [], [], []
         crates = Path("crates")
+        self.crates = {path.name for path in crates.iterdir()}
         sources = sorted(crates.glob("*/src/**/*.rt"))
         for path in sources:
             below = ".".join(path.parts[3:])[:-len(".rt")]
             inner = "" if below in ("lib", "main") else below + "."
             for item in rust_types(path):
-                key = f"Rattle·{path.parts[1]}.specs.declared.{inner}{item.name}", item.name
+                key = f"Rattle.{path.parts[1]}.specs.declared.{inner}{item.name}", item.name
                 self.defined[key] = item
                 self.types[path.parts[1], item.name] = key
             self.public += functions(path, True)
             self.inner += functions(path, False)
         read = []
         for path in sorted(crates.glob("*/specs/*.antt")) + sorted(crates.glob("*/proofs/*.antt")):
-            module = f"Rattle·{path.parts[1]}.{path.parts[2]}" + ("" if path.stem == "Lib" else "." + path.stem)
+            module = f"Rattle.{path.parts[1]}.{path.parts[2]}" + ("" if path.stem == "Lib" else "." + path.stem)
             items = declarations(path)
             self.defined.update({(module, item.name): item for item in items})
             self.made.update({(module, c): (module, item.name) for item in items for c in constructors(item)})
@@ -143,8 +149,8 @@ class House:
         names, modules = imports(path)
         crate = path.parts[1]
         known = {**own, **{n: self.home(crate, *v) for n, v in names.items()}}
-        # an operator of words, `_when_else_` or `_andThen_`, is used by its first word
-        known.update({n.split("_")[1]: key for n, key in known.items() if re.match(r"_[a-zA-Z]+_([a-z]+_)?$", n)})
+        # an operator of words, `◌when◌else◌` or `◌and_then◌`, is used by its first word
+        known.update({n.split("◌")[1]: key for n, key in known.items() if re.match(r"◌\w+◌(\w+◌)?$", n)})
         self.files[str(path)] = known, modules
 
     def home(self, crate, module, name):
@@ -152,11 +158,10 @@ class House:
         if "::" in module:
             parts = module.split("::")
             return self.types.get((crate if parts[0] == "crate" else parts[0], parts[-1]))
-        if not module.startswith("Rattle·"):
+        if not module.startswith("Rattle.") or module.split(".")[1] not in self.crates:
             return None
-        module = re.sub(r"^(Rattle·\w+)·(specs|proofs)\.", r"\1.", module)
-        if module.endswith(".the-variants"):
-            module = module[:-len(".the-variants")]
+        if module.endswith(".TheVariants"):
+            module = module[:-len(".TheVariants")]
             name = module.split(".")[-1]
         return self.made.get((module, name), (module, name))
 
@@ -233,7 +238,7 @@ def table(rows):
 def reading_order(house, keys):
     """The files that have these definitions, and in how many lines: each behind those whose definitions it names, and
     the lowest crate first."""
-    crates = [line.split(":")[0] for line in Path("crates.txt").read_text(encoding="utf-8").splitlines()]
+    crates = [re.split("[ :]", line)[0] for line in Path("crates.txt").read_text(encoding="utf-8").splitlines()]
     lines, named = {}, {}
     for key in keys:
         item = house.defined[key]

@@ -29,16 +29,16 @@ def unread(root):
 
 def among_the_proofs(root):
     (root / "crates/answers/specs/Outcome.antt").rename(root / "crates/answers/proofs/Outcome.antt")
-    replace(root, "Rattle·answers.specs.Outcome", "Rattle·answers.proofs.Outcome")
+    replace(root, "Rattle.answers.specs.Outcome", "Rattle.answers.proofs.Outcome")
 
 
 def inner(root):
     (root / "crates/answers/specs/Outcome.antt").rename(root / "crates/answers/specs/Inner.antt")
-    replace(root, "Rattle·answers.specs.Outcome", "Rattle·answers.specs.Inner")
+    replace(root, "Rattle.answers.specs.Outcome", "Rattle.answers.specs.Inner")
 
 
 def lost(root):
-    replace(root, "Rattle·answers.specs.Outcome", "Rattle·answers.specs.Lost")
+    replace(root, "Rattle.answers.specs.Outcome", "Rattle.answers.specs.Lost")
 
 
 def other_figures(root):
@@ -75,7 +75,7 @@ def main():
     for plant, words in FAULTS:
         with tempfile.TemporaryDirectory() as folder:
             root = Path(folder)
-            shutil.copytree("crates", root / "crates")
+            shutil.copytree("crates", root / "crates", ignore=shutil.ignore_patterns("out"))
             (root / "docs").mkdir()
             for page in (PUBLISHED, "README.md", "crates.txt"):
                 shutil.copy(page, root / page)

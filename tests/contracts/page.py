@@ -7,11 +7,11 @@ field begins with `-- by ` and names the entry points for which the field speaks
 the next). This fails where
   - an entry point is named by no field, a field of such a record names none, or a name is no entry point's;
   - a field that names an entry point lacks the definition that this entry point's contract is an equation with. An
-    exported function tells what a definition below it gives, and its field may have that: `callRead f s d` is defined
-    over `readingOf`, `toldSize (sizeFor f l)` has `sizeFor` in it.
+    exported function tells what a definition below it gives, and its field may have that: `call_read f s d` is defined
+    over `reading_of`, `told_size (size_for f l)` has `size_for` in it.
   - an exported function that is named for a code, format, kind or header has another one in its contract, as
     `kusikhut_read_a` would with `Format.B`.
-Entry points are the public functions of the crates below, and the exported ones. What is compared are names; that calls
+Entry points are the public functions of the crates below, and the exported ones (crates/kusikhut_c). What is compared are names; that calls
 are judged as the page says is proved of the functions of crates/entry. With `self-test` it exits with 1 if a fault that
 is planted in a small page is not found.
 """
@@ -27,7 +27,7 @@ CRATES = ("address", "channels", "chipreader", "correction", "crc", "filter", "f
           "radio", "store", "sync")
 # public functions that are no entry points: the layout of a header's kind, which `read` and `write` share
 INNER = {f"header::{name}" for name in ("ci_of", "has_receiver", "has_session", "session_place", "header_length")}
-BELOW = re.compile(r"Rattle·(?!kusikhut\.)\w+\.specs\.(?!declared\.)")
+BELOW = re.compile(r"Rattle\.(?!kusikhut\.|std\.)\w+\.specs\.(?!declared\.)")
 
 # what an exported function is named for, and what its contract must then have
 NAMED = [
@@ -64,7 +64,7 @@ def fields(page):
 
 def over(function, calls):
     """The definitions by which a field may speak of a function; `calls` is the text of kusikhut/specs."""
-    right = equation(function)[1] or ""
+    right = equation(function)[0] or ""
     head = head_of(right)
     if not function.exported:
         return [head]
@@ -79,13 +79,13 @@ def entry_points():
     for path in sorted(Path("crates").glob("*/src/**/*.rt")):
         for f in functions(path.parts[1], path.read_text(encoding="utf-8")):
             if f.exported or path.parts[1] in CRATES and f.name not in ASKING | INNER:
-                found[f.name.replace("kusikhut::", "")] = f
+                found[f.name.replace("kusikhut_c::", "")] = f
     return found
 
 
 def another(name, function):
     """The constant that a function is named for, where its contract lacks it."""
-    words = WORD.findall(equation(function)[1] or "")
+    words = WORD.findall(equation(function)[0] or "")
     wanted = [constant for pattern, constant in NAMED if function.exported and re.search(pattern, name)]
     return [constant for constant in wanted if constant not in words and constant.split(".")[-1] not in words]
 
@@ -111,31 +111,31 @@ SMALL = """pub record Answers : Type 0 where
   -- any bytes have a check
   -- by crc::check, kusikhut_check
   -- (12.5.7)
-  pub checking : (s : List ℕ) → Word (checkOf s)
+  pub checking : (s : List ℕ) → Word (check_of s)
   -- by frame::read,
   -- kusikhut_read_a
   pub reading :
-      (s : List ℕ) → Harmless (readingOf s)
+      (s : List ℕ) → Harmless (reading_of s)
 
 pub record Later : Type 0 where
-  pub unnamed : (s : List ℕ) → checkOf s ≡ checkOf s
+  pub unnamed : (s : List ℕ) → check_of s ≡ check_of s
 """
-CALLS = "use Rattle·frame.specs.Reads.{readingOf}\n\ncallRead s =\n    tells toldFrame (readingOf s)\n"
+CALLS = "use Rattle.frame.specs.Reads.{reading_of}\n\ncall_read s =\n    tells told_frame (reading_of s)\n"
 ENTRIES = {
-    name: Function(name, name.startswith("kusikhut"), f"(s: u8) -> u8 ensures {{ λ r. ⌜ r ≡ {head} s ⌝ }}", {})
-    for name, head in (("crc::check", "checkOf"), ("kusikhut_check", "checkOf"), ("frame::read", "readingOf"),
-                       ("kusikhut_read_a", "callRead Format.A"))
+    name: Function(name, name.startswith("kusikhut"), f"(s: u8) -> u8 ensures {{ result ≡ {head} s }}", {})
+    for name, head in (("crc::check", "check_of"), ("kusikhut_check", "check_of"), ("frame::read", "reading_of"),
+                       ("kusikhut_read_a", "call_read Format.A"))
 }
 # what stands in the small page or in its calls, what is planted there, a word of the fault that must be found
 PLANTED = [
-    ("Word (checkOf s)", "Word (regOf s)", "lacks checkOf"),
-    ("Word (checkOf s)", "Word s  -- checkOf", "lacks checkOf"),
+    ("Word (check_of s)", "Word (reg_of s)", "lacks check_of"),
+    ("Word (check_of s)", "Word s  -- check_of", "lacks check_of"),
     ("  -- by crc::check, kusikhut_check\n", "", "no line `-- by`"),
     ("crc::check, ", "", "`crc::check` is named by no field"),
     ("crc::check", "crc::chek", "`crc::chek` is no entry point"),
     (",\n  -- kusikhut_read_a", "", "`kusikhut_read_a` is named by no field"),
-    ("Harmless (readingOf s)", "Harmless (writingOf s)", "lacks callRead and readingOf, which `kusikhut_read_a`"),
-    ("tells toldFrame (readingOf s)", "tells toldFrame s", "lacks callRead, which `kusikhut_read_a`"),
+    ("Harmless (reading_of s)", "Harmless (writing_of s)", "lacks call_read and reading_of, which `kusikhut_read_a`"),
+    ("tells told_frame (reading_of s)", "tells told_frame s", "lacks call_read, which `kusikhut_read_a`"),
 ]
 
 

@@ -6,9 +6,10 @@ A contract settles where it is one equation, LEFT ≡ RIGHT, and
   - RIGHT has none of these: it is a definition of some specs/ for the parameters and what they hold at entry;
   - nothing stands before the equation or beside it: no hypothesis, no second fact, no `requires` but those of D23.
 Two outcomes that such a contract allows have LEFTs that equal the same RIGHT, so they are equal (answers/proofs/Settled
-`settled`), and with them the results and the lent bytes they are made of (`settled-outcome` there, and
-kusikhut/proofs/ToldLaws `settled-told`, `settled-shown`). That every public contract has this shape is what this test
-looks at, in the text of crates/*/src; docs/SETTLED.md says what follows.
+`settled`), and with them the results and the lent bytes they are made of (`settled_outcome` there, and
+kusikhut/proofs/ToldLaws `settled_told`, `settled_shown`). That every public contract has this shape is what this test
+looks at, in the text of crates/*/src; docs/SETTLED.md says what follows. It looks, too, whether each exported function
+has the parameters and clauses of kusikhut's function of the same name.
 Prints each function that is not settled so, and exits with 1 if there is one. With `self-test` it exits with 1 if a
 contract that leaves something open is not found, or found for another reason, or one that settles is taken for open.
 """
@@ -25,19 +26,19 @@ ASKING = {"chips::word", "chips::narrow", "blocks::first_wrong", "blocks::copy_p
           "locating::locate", "repairing::repair"}
 # clauses beside the equation, by name: document 01's own words on the update (D20); they allow no other answer
 BESIDE = {("crc::update", "mends")}
-# clauses that settle and are no equation with a definition, word for word: a byte is itself, and below 256; the other
+# facts that settle and are no equation with a definition, word for word: a byte is itself, and below 256; the other
 # two by theorems of their own (products/proofs/SettledLaws)
-OTHERWISE = {"chips::wide": "λ r. ⌜ (r ≡ b) × (r < 256) ⌝", "products::ratio": "λ r. ⌜ mul r b ≡ a ⌝",
-             "products::tables_lent": "λ r. ⌜ TablesOk (r .powers) (r .logs) ⌝"}
+OTHERWISE = {"chips::wide": ["result ≡ b", "result < 256"], "products::ratio": ["mul result b ≡ a"],
+             "products::tables_lent": ["TablesOk result.powers result.logs"]}
 # public functions that leave something open, and on purpose (D111): nobody sees it but the crate above. None of them is
 # an entry point or exported
 LEFT_OPEN = {"locating::locate", "repairing::repair"}
 # words of the toolchain that may stand in a RIGHT; HEADS may also begin it, as the bytes that are stored from a place on
 # (`sets`) or copied there (`paste`)
-KIT, HEADS = {"now", "length", "drop", "replicate"}, {"sets", "paste"}
+KIT, HEADS = {"length", "drop", "replicate"}, {"sets", "paste"}
 # where the words that equations are made of must come from
-HOMES = {"_≡_": "mathlib.Core.Path", "Outcome": "Rattle·answers.specs.Outcome", "told": "Rattle·kusikhut.specs.Told",
-         "shown": "Rattle·kusikhut.specs.Told"}
+HOMES = {"◌≡◌": "Rattle.std.specs.Prelude", "Outcome": "Rattle.answers.specs.Outcome",
+         "told": "Rattle.kusikhut.specs.Told", "shown": "Rattle.kusikhut.specs.Told"}
 
 FUNCTION = re.compile(r'^( *)pub (extern "C" )?fn (\w+)(.*?)\s\{\n', re.S | re.M)
 PUBLIC = re.compile(r'^\s*pub\b[^(\n]*\bfn ', re.M)
@@ -52,10 +53,9 @@ Function = namedtuple("Function", "name exported head imports")
 def imports(crate, text):
     """The names that a source file has for contracts, each with its module: its own types, and what it imports."""
     own = re.findall(r"^pub (?:enum|struct) (\w+)", text, re.M)
-    found = {name: f"Rattle·{crate}.specs.declared.{name}" for name in own}
+    found = {name: f"Rattle.{crate}.specs.declared.{name}" for name in own}
     for module, names in IMPORT.findall(text):
-        home = re.sub(r"^(Rattle·\w+)·specs\.", r"\1.", module)
-        found.update({name.split(" as ")[-1].strip(): home for name in names.split(",")})
+        found.update({name.split(" as ")[-1].strip(): module for name in names.split(",")})
     return found
 
 
@@ -83,43 +83,46 @@ def parts(head):
     return signature, clauses
 
 
-def lefts(result, returns, lent):
+def facts(clauses):
+    """What the ensures clauses say, fact by fact."""
+    return [fact.strip("() ") for word, _, text in clauses if word == "ensures" for fact in text.split(" × ")]
+
+
+def lefts(returns, lent):
     """The left sides that have the result and all lent memory in them; where more is lent, none."""
-    after = [f"now ({x} .exit)" for x in lent]
+    after = [f"{x}.new" for x in lent]
     if not returns:
         return after if len(after) == 1 else []
     if not after:
-        return [result]
+        return ["result"]
     if len(after) == 1:
-        return [f"record {{ answer = {result}; memory = {after[0]} }}", f"told {result} ({after[0]})"]
-    return [f"shown {result} ({x}) ({y})" for x, y in (after, after[::-1])] if len(after) == 2 else []
+        return [f"record {{ answer = result; memory = {after[0]} }}", f"told result {after[0]}"]
+    return [f"shown result {x} {y}" for x, y in (after, after[::-1])] if len(after) == 2 else []
 
 
 def equation(function):
-    """The result's name and the right side of a function's equation, and what is wrong with the left side."""
+    """The right side of a function's equation, and what is wrong with the left side."""
     signature, clauses = parts(function.head)
     settling = [text for word, name, text in clauses if word == "ensures" and (function.name, name) not in BESIDE]
     if len(settling) != 1:
-        return None, None, f"it has {len(settling)} settling clauses, not one"
-    m = re.fullmatch(r"λ (\w+)\. ⌜ ([^⌜⌝]*) ⌝", settling[0])
-    if not m:
-        return None, None, "its clause is not one fact of the result"
+        return None, f"it has {len(settling)} settling clauses, not one"
     returns = re.search(r"\)\s*->\s*(.+)", signature)
-    allowed = lefts(m[1], returns, re.findall(r"(\w+): &(?:'\w+ )?mut ", signature))
+    lent = re.findall(r"(\w+): &(?:'\w+ )?mut ", signature) + re.findall(r"&(?:'\w+ )?mut (self)\b", signature)
+    allowed = lefts(returns, lent)
     for left in allowed:
-        typed = f"_≡_ {{A = Outcome {returns and returns[1].strip()}}} ({left}) ("
+        typed = f"◌≡◌ {{A = Outcome {returns and returns[1].strip()}}} ({left}) ("
         for before, behind in ((f"{left} ≡ ", ""), (typed, ")")):
-            if m[2].startswith(before) and m[2].endswith(behind):
-                return m[1], m[2][len(before):len(m[2]) - len(behind)], None
-    return m[1], None, f"its clause is no equation of {' or '.join(allowed) or 'all that is lent'}"
+            if settling[0].startswith(before) and settling[0].endswith(behind):
+                return settling[0][len(before):len(settling[0]) - len(behind)], None
+    return None, f"its clause is no equation of {' or '.join(allowed) or 'all that is lent'}"
 
 
 def defined(name, home):
     """Whether a name that comes from `home` is a definition of a crate's specs/, its Inner.antt aside (D75)."""
-    m = re.fullmatch(r"Rattle·(\w+)\.specs\.(?!Inner$)(\w+)", home)
+    m = re.fullmatch(r"Rattle\.(\w+)\.specs\.(?!Inner$)(\w+)", home)
     path = m and Path(f"crates/{m[1]}/specs/{m[2]}.antt")
     return bool(path) and path.is_file() and re.search(
-        rf"^(?:(?:abbrev|unfoldable|pub) )+{name} :", path.read_text(encoding="utf-8"), re.M) is not None
+        rf"^(?:(?:abbrev|unfoldable|pub) )+{re.escape(name)} :", path.read_text(encoding="utf-8"), re.M) is not None
 
 
 def head_of(right):
@@ -127,24 +130,25 @@ def head_of(right):
     return next((w for w in WORD.findall(right) if w not in KIT and not w.isdigit()), "")
 
 
-def wrong_right(function, result, right, is_defined):
+def wrong_right(function, right, is_defined):
     """What is wrong with the right side of an equation."""
     parameters = set(re.findall(r"(\w+):", parts(function.head)[0])) | {"self"}
-    if result in parameters:
+    if "result" in parameters:
         return "its result has a parameter's name"
     words = WORD.findall(right)
-    if result in words or ".exit" in words:
+    if any(word.split(".")[0] == "result" or "new" in word.split(".")[1:] for word in words):
         return "its right side speaks of the result or of memory at exit"
     depths = [right[:k].count("(") - right[:k].count(")") for k in range(len(right) + 1)]
     if min(depths) < 0 or depths[-1]:
         return "its right side is more than one term"
     for word in words:
-        plain = word.isdigit() or word in KIT | HEADS | parameters | {"∷", "[]", "++", "+", "*"}
-        home = function.imports.get(word.split(".")[0], "")
+        first = word.split(".")[0]
+        plain = word.isdigit() or word in KIT | HEADS | {"∷", "[]", "++", "+", "*"} or first in parameters
+        home = function.imports.get(first, "")
         if not (plain or word.startswith(".") or is_defined(word, home) or ".specs.declared." in home):
             return f"`{word}` of its right side is neither a parameter nor a definition"
     head = head_of(right)
-    if head not in HEADS and (head in parameters or not is_defined(head, function.imports.get(head, ""))):
+    if head not in HEADS and (head.split(".")[0] in parameters or not is_defined(head, function.imports.get(head, ""))):
         return "its right side begins with no definition of specs/"
     return None
 
@@ -154,67 +158,80 @@ def faults(function, is_defined=defined):
     _, clauses = parts(function.head)
     asks = any(word == "requires" for word, _, _ in clauses)
     found = ["it asks something of its caller"] if asks and (function.exported or function.name not in ASKING) else []
-    settled = [text for word, _, text in clauses if word == "ensures"] == [OTHERWISE.get(function.name)]
+    settled = facts(clauses) == OTHERWISE.get(function.name)
     if settled or function.name in LEFT_OPEN and not function.exported:
         return found
-    result, right, wrong = equation(function)
-    wrong = wrong or wrong_right(function, result, right, is_defined)
-    foreign = [w for w, home in HOMES.items() if w in function.head and function.imports.get(w, home) != home]
+    right, wrong = equation(function)
+    wrong = wrong or wrong_right(function, right, is_defined)
+    foreign = [w for w, home in HOMES.items() if w.strip("◌") in function.head and function.imports.get(w, home) != home]
     return found + [wrong] * bool(wrong) + [f"`{w}` is not that of {HOMES[w]}" for w in foreign]
 
 
+def apart(met):
+    """The exported functions that have not the parameters and clauses of kusikhut's function of the same name."""
+    heads = {f.name: re.sub(r",?\s*\)", ")", re.sub(r"\(\s+", "(", " ".join(f.head.split()))) for f in met}
+    return [f"{f.name} has not the parameters and clauses of kusikhut's function" for f in met
+            if f.exported and heads.get(f.name.replace("kusikhut_c::", "kusikhut::")) != heads[f.name]]
+
+
 ONE, LENT = "(s: &[u8]) -> u8", "(s: &[u8], d: &mut [u8]) -> u8"
-ITSELF = "record { answer = r; memory = now (d .exit) }"
+ITSELF = "record { answer = result; memory = d.new }"
 # heads that leave something open, each with a word of the fault that must be found
 OPEN = [
     (ONE, "0 settling"),
-    (ONE + " ensures { λ r. ⌜ r ≡ r ⌝ }", "speaks of the result"),
-    (ONE + " ensures { λ r. ⌜ r ≡ (r) ⌝ }", "speaks of the result"),
-    (ONE + " ensures { λ r. ⌜ r ≡ bitXor 0 r ⌝ }", "speaks of the result"),
-    (ONE + " ensures { λ r. ⌜ r ≡ bitXor 0 0 ⌝ }", "`bitXor`"),
-    (ONE + " ensures { λ r. ⌜ r ≡ 0 ⌝ }", "no definition"),
-    ("(meaning: u8) -> u8 ensures { λ r. ⌜ r ≡ meaning ⌝ }", "no definition"),
-    (ONE + " ensures { λ r. ⌜ r ≡ length (now (s .entry)) ⌝ }", "no definition"),
-    (ONE + " ensures { λ r. ⌜ r ≤ meaning (now (s .entry)) ⌝ }", "no equation of r"),
-    (ONE + " ensures { λ r. ⌜ 1 ≡ 0 → r ≡ meaning (now (s .entry)) ⌝ }", "no equation of r"),
-    (ONE + " ensures { λ r. ⌜ (0 < length (now (s .entry)) → r ≡ meaning (now (s .entry))) ⌝ }", "no equation of r"),
-    (ONE + " ensures { λ r. ⌜ r ≡ meaning (now (s .entry)) ⊎ ⊤ ⌝ }", "`⊎`"),
-    (ONE + " ensures { λ r. ⌜ r ≡ meaning (λ x. x) ⌝ }", "`λ`"),
-    (ONE + " ensures { λ r. ⌜ r ≡ meaning (now (s .entry)) ⌝ ∨ ⌜ 0 ≡ 0 ⌝ }", "not one fact"),
-    (ONE + " ensures { λ r. ⌜ r ≡ meaning (now (s .entry)) ⌝ } ensures more { λ r. ⌜ r ≡ r ⌝ }", "2 settling"),
-    (ONE + " ensures { λ r. ⌜ told 0 (now (s .entry)) ≡ meaning ⌝ }", "no equation of r"),
-    ("(r: u8) -> u8 ensures { λ r. ⌜ r ≡ meaning r ⌝ }", "a parameter's name"),
-    (ONE + " requires { ⌜ 1 ≡ 0 ⌝ } ensures { λ r. ⌜ r ≡ meaning (now (s .entry)) ⌝ }", "asks something"),
-    (LENT + " ensures { λ r. ⌜ r ≡ meaning (now (s .entry)) ⌝ }", "no equation of record"),
-    (LENT + " ensures { λ r. ⌜ told r (now (s .entry)) ≡ meaning (now (d .exit)) ⌝ }", "no equation of record"),
-    (LENT + " ensures { λ r. ⌜ told r (now (d .exit)) ≡ meaning (now (d .exit)) ⌝ }", "memory at exit"),
-    (LENT + " ensures { λ r. ⌜ record { answer = 0; memory = now (d .exit) } ≡ meaning ⌝ }", "no equation of record"),
-    (LENT + " ensures { λ r. ⌜ record { answer = r; memory = now (d .entry) } ≡ meaning ⌝ }", "no equation of record"),
-    (LENT + f" ensures {{ λ r. ⌜ {ITSELF} ≡ {ITSELF} ⌝ }}", "speaks of the result"),
-    (LENT + f" ensures {{ λ r. ⌜ _≡_ {{A = Outcome u8}} ({ITSELF}) ({ITSELF}) ⌝ }}", "speaks of the result"),
-    (LENT + f" ensures {{ λ r. ⌜ _≡_ {{A = ⊤}} ({ITSELF}) (meaning) ⌝ }}", "no equation of record"),
-    (LENT + f" ensures {{ λ r. ⌜ _≡_ {{A = Outcome u8}} ({ITSELF}) (meaning) × (meaning) ⌝ }}", "more than one term"),
-    ("(d: &mut [u8], e: &mut [u8]) ensures { λ r. ⌜ now (d .exit) ≡ meaning ⌝ }", "all that is lent"),
+    (ONE + " ensures { result ≡ result }", "speaks of the result"),
+    (ONE + " ensures { result ≡ (result) }", "speaks of the result"),
+    (ONE + " ensures { result ≡ bit_xor 0 result }", "speaks of the result"),
+    (ONE + " ensures { result ≡ meaning result.size }", "speaks of the result"),
+    (ONE + " ensures { result ≡ bit_xor 0 0 }", "`bit_xor`"),
+    (ONE + " ensures { result ≡ 0 }", "no definition"),
+    ("(meaning: u8) -> u8 ensures { result ≡ meaning }", "no definition"),
+    ("(meaning: &u8) -> u8 ensures { result ≡ meaning.now }", "no definition"),
+    (ONE + " ensures { result ≡ length s.now }", "no definition"),
+    (ONE + " ensures { result ≤ meaning s.now }", "no equation of result"),
+    (ONE + " ensures { 1 ≡ 0 → result ≡ meaning s.now }", "no equation of result"),
+    (ONE + " ensures { (0 < length s.now → result ≡ meaning s.now) }", "no equation of result"),
+    (ONE + " ensures { result ≡ meaning s.now ⊎ ⊤ }", "`⊎`"),
+    (ONE + " ensures { result ≡ meaning (λ x. x) }", "`λ`"),
+    (ONE + " ensures { result ≡ meaning s.now ∨ 0 ≡ 0 }", "`∨`"),
+    (ONE + " ensures { (result ≡ meaning s.now) ∨ (0 ≡ 0) }", "no equation of result"),
+    (ONE + " ensures { result ≡ meaning s.now } ensures more { result ≡ result }", "2 settling"),
+    (ONE + " ensures { told 0 s.now ≡ meaning }", "no equation of result"),
+    ("(result: u8) -> u8 ensures { result ≡ meaning result }", "a parameter's name"),
+    (ONE + " requires { 1 ≡ 0 } ensures { result ≡ meaning s.now }", "asks something"),
+    (LENT + " ensures { result ≡ meaning s.now }", "no equation of record"),
+    (LENT + " ensures { told result s.now ≡ meaning d.new }", "no equation of record"),
+    (LENT + " ensures { told result d.new ≡ meaning d.new }", "memory at exit"),
+    (LENT + " ensures { told result d.new ≡ meaning (d).new }", "memory at exit"),
+    (LENT + " ensures { record { answer = 0; memory = d.new } ≡ meaning }", "no equation of record"),
+    (LENT + " ensures { record { answer = result; memory = d.old } ≡ meaning }", "no equation of record"),
+    (LENT + f" ensures {{ {ITSELF} ≡ {ITSELF} }}", "speaks of the result"),
+    (LENT + f" ensures {{ ◌≡◌ {{A = Outcome u8}} ({ITSELF}) ({ITSELF}) }}", "speaks of the result"),
+    (LENT + f" ensures {{ ◌≡◌ {{A = ⊤}} ({ITSELF}) (meaning) }}", "no equation of record"),
+    (LENT + f" ensures {{ ◌≡◌ {{A = Outcome u8}} ({ITSELF}) (meaning) × (meaning) }}", "more than one term"),
+    ("(d: &mut [u8], e: &mut [u8]) ensures { d.new ≡ meaning }", "all that is lent"),
+    ("(&mut self) -> u8 ensures { result ≡ meaning }", "no equation of record"),
 ]
 SETTLED = [
-    ONE + " ensures { λ r. ⌜ r ≡ meaning (now (s .entry)) ⌝ }",
-    "(v: &mut [f64; 3]) ensures { λ r. ⌜ now (v .exit) ≡ meaning ⌝ }",
-    LENT + f" ensures {{ λ r. ⌜ {ITSELF} ≡ meaning ⌝ }}",
-    LENT + f" ensures {{ λ r. ⌜ _≡_ {{A = Outcome u8}} ({ITSELF}) (meaning (now (s .entry))) ⌝ }}",
-    LENT + " ensures { λ r. ⌜ told r (now (d .exit)) ≡ meaning ⌝ }",
-    "(d: &mut [u8], v: &mut [u64; 1]) -> u8 ensures { λ r. ⌜ shown r (now (v .exit)) (now (d .exit)) ≡ meaning ⌝ }",
+    ONE + " ensures { result ≡ meaning s.now }",
+    "(v: &mut [f64; 3]) ensures { v.new ≡ meaning }",
+    LENT + f" ensures {{ {ITSELF} ≡ meaning }}",
+    LENT + f" ensures {{ ◌≡◌ {{A = Outcome u8}} ({ITSELF}) (meaning s.now) }}",
+    LENT + " ensures { told result d.new ≡ meaning d.old }",
+    "(d: &mut [u8], v: &mut [u64; 1]) -> u8 ensures { shown result v.new d.new ≡ meaning }",
 ]
-ASKS = " requires { ⌜ 1 ≡ 0 ⌝ } ensures { λ r. ⌜ r ≡ meaning (now (s .entry)) ⌝ }"
+ASKS = " requires { 1 ≡ 0 } ensures { result ≡ meaning s.now }"
 # faults planted in copies of source files: file, what stands there, what is planted, the function that is then open
 PLANTED = [
-    ("frame/src/lib.rt", "(readingOf f (now (s .entry)) (now (out .entry)))", "(leaving r (now (out .exit)))",
-     "frame::read"),
-    ("crc/src/lib.rt", "r ≡ checkOf (now (s .entry))", "1 ≡ 0 → r ≡ checkOf (now (s .entry))", "crc::check"),
-    ("header/src/access.rt", "⌜ r ≡ accessOf cc ⌝", "⌜ r ≡ bitXor 0 r ⌝", "header::announced"),
-    ("kusikhut/src/crc_calls.rt", "ensures { λ r. ⌜ r ≡", "requires { ⌜ 1 ≡ 0 ⌝ }\n    ensures { λ r. ⌜ r ≡",
-     "kusikhut::kusikhut_check"),
-    ("channels/src/plan.rt", "specs.Plan.{float, rowOf,", "specs.Made.{float, rowOf,", "channels::row_at"),
+    ("frame/src/lib.rt", "(reading_of f s.now out.old)", "(leaving result out.new)", "frame::read"),
+    ("crc/src/lib.rt", "result ≡ check_of s.now", "1 ≡ 0 → result ≡ check_of s.now", "crc::check"),
+    ("header/src/access.rt", "{ result ≡ access_of cc }", "{ result ≡ bit_xor 0 result }", "header::announced"),
+    ("kusikhut_c/src/crc_calls.rt", "ensures { result ≡", "requires { 1 ≡ 0 }\n    ensures { result ≡",
+     "kusikhut_c::kusikhut_check"),
+    ("channels/src/plan.rt", "specs.Plan.{float, row_of,", "specs.Made.{float, row_of,", "channels::row_at"),
 ]
+# what is planted in an exported function alone, so that it is kusikhut's no longer
+OTHER = [("check_of s.now", "reg_of 0 s.now"), ("s: &[u8]", "t: &[u8]"), ("kusikhut_check(", "kusikhut_chek(")]
 
 
 def self_test():
@@ -230,9 +247,14 @@ def self_test():
         opened = {f.name for f in functions(file.split("/")[0], text.replace(old, new)) if faults(f)}
         if old not in text or name not in opened:
             wrong.append(f"planted in {file} and not found: {new}")
+    ours = list(functions("kusikhut", Path("crates/kusikhut/src/crc_calls.rt").read_text(encoding="utf-8")))
+    text = Path("crates/kusikhut_c/src/crc_calls.rt").read_text(encoding="utf-8")
+    wrong += [f"taken for another: {fault}" for fault in apart(ours + list(functions("kusikhut_c", text)))]
+    wrong += [f"not found in an exported function: {new}" for old, new in OTHER
+              if old not in text or not apart(ours + list(functions("kusikhut_c", text.replace(old, new, 1))))]
     for line in wrong:
         print(line)
-    print(f"tests/contracts: {len(OPEN)} open contracts and {len(PLANTED)} planted faults, {len(wrong)} not told")
+    print(f"tests/contracts: {len(OPEN)} open contracts and {len(PLANTED + OTHER)} planted faults, {len(wrong)} not told")
     return 1 if wrong else 0
 
 
@@ -245,6 +267,7 @@ def main():
             wrong.append(f"{path}: a public function's head was not found; heads are read as rt fmt lays them out")
         met += here
         wrong += [f"{path}: {function.name}: {fault}" for function in here for fault in faults(function)]
+    wrong += apart(met)
     for names, clause in ((ASKING, "requires"), ({name for name, _ in BESIDE} | OTHERWISE.keys(), "ensures")):
         having = {f.name for f in met if clause in f.head}
         wrong += [f"{name} is listed in this test and has no {clause}" for name in sorted(names - having)]

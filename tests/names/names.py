@@ -19,7 +19,7 @@ SOURCES = ("crates", "rust", "include", "tests", "bench", "examples", "tools", "
 TEXT = {}
 for top in SOURCES:
     for path in sorted(ROOT.glob(f"{top}/**/*")):
-        if path.is_file() and "target" not in path.parts:
+        if path.is_file() and not {"target", "out"} & set(path.parts):
             TEXT[path.as_posix()] = path.read_text(encoding="utf-8", errors="replace")
 for name in ("kusikhut", "crates.txt"):
     if Path(name).is_file():
@@ -39,7 +39,7 @@ TOKEN = re.compile(
     r"|(?P<bare>\b[A-Z]\w+(?= `))"
     r"|(?P<end>[|;.](?=\s|$))"
 )
-WORD = r"(?<![\w·-]){}(?![\w·-])"
+WORD = r"(?<![\w-]){}(?![\w-])"
 
 
 def stands(name, text):
@@ -49,7 +49,8 @@ def stands(name, text):
 def file_of(name):
     crate, folder, stem = name.split("/")
     path = f"crates/{crate}/{folder}/{stem}"
-    return next((p for p in (f"{path}.antt", f"{path}.edit", f"{path}/Proof.antt") if p in TEXT), None)
+    proofs = (f"{path}/{name}.antt" for name in ("Proof", "Answers", "Invariants"))
+    return next((p for p in (f"{path}.antt", f"{path}.edit", *proofs) if p in TEXT), None)
 
 
 def ticked(text, current):
@@ -63,7 +64,7 @@ def ticked(text, current):
     if m and m.group(1) in CRATES:
         source = "\n".join(t for p, t in TEXT.items() if p.startswith(f"crates/{m.group(1)}/src/"))
         return all(re.search(rf"\b{w}\b", source) for w in m.groups()[1:] if w)
-    m = re.fullmatch(r"rt (?:must-fail|check|dev|staticlib) (\w+)", text)
+    m = re.fullmatch(r"rt (?:must-fail|ci) (\w+)", text)
     if m:
         return m.group(1) in CRATES or m.group(1).isupper()
     if re.fullmatch(r"[\w.-]+(?:/[\w.*-]+)+/?", text):

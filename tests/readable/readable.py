@@ -4,7 +4,7 @@
   readable.py [--crate NAME] [--list]
 
 Fails on: a line of more than 120 characters (imports aside); a path of four or more
-steps that stands twice in one answer of a Proof.antt; a law of more than 20 lines; more
+steps that stands twice in one answer (Answers.antt, Invariants.antt, Proof.antt); a law of more than 20 lines; more
 than one law in ten of over 8 lines (cases in a row with one right side count as one line). Walks by hand (WALKS) are left out: their text follows
 the program logic step by step. Fails also on a line of a must-fail edit that rt passes over: a text of several lines is
 one replacement for each. With --list it also names the laws of over 8 lines.
@@ -14,14 +14,15 @@ import argparse, collections, glob, os, re, sys
 WIDEST, STEPS, LONGEST, USUAL = 120, 4, 20, 8
 WALKS = ("crates/chipreader/proofs/new/", "crates/chipreader/proofs/next/", "crates/chipreader/proofs/first/")
 EDIT = ("#", "file: ", "old: ", "new:")
+ANSWERS = ("/Answers.antt", "/Invariants.antt", "/Proof.antt")
 IMPORT = re.compile(r"\s*(ghost )?(pub )?use ")
-PATH = re.compile(r"\b[a-z][\w'-]*((?: \.[\w'-]+){%d,})" % STEPS)
+PATH = re.compile(r"(?<![\w.'-])[a-z][\w'-]*((?:\.[\w'-]+){%d,})" % STEPS)
 HEAD = re.compile(r"^( *)(?:(?:abbrev|unfoldable|pub|opaque) )*([^\s:=(]+)\s*(?::|$)")
 
 
 def files(crate):
     for top, dirs, names in os.walk("crates"):
-        dirs[:] = sorted(d for d in dirs if d != "must-fail")
+        dirs[:] = sorted(d for d in dirs if d not in ("must-fail", "out"))
         for n in sorted(names):
             path = os.path.join(top, n)
             if n.endswith((".rt", ".antt")) and not path.startswith(WALKS) and (not crate or path.split("/")[1] == crate):
@@ -56,9 +57,9 @@ def twice(lines):
     seen = collections.Counter()
     for line in lines:
         for m in PATH.finditer(line):
-            steps = m.group(0).split()
+            steps = m.group(0).split(".")
             for n in range(STEPS, len(steps)):
-                seen[" ".join(steps[:n + 1])] += 1
+                seen[".".join(steps[:n + 1])] += 1
     return [p for p, k in seen.items() if k > 1]
 
 
@@ -73,7 +74,7 @@ def main():
         for no, line in enumerate(lines, 1):
             if len(line) > WIDEST and not IMPORT.match(line):
                 wrong.append(f"{path}:{no}: {len(line)} characters")
-        if path.endswith("/Proof.antt"):
+        if path.endswith(ANSWERS):
             for no, name, text in blocks(lines):
                 for q in twice(text):
                     wrong.append(f"{path}:{no}: {name}: twice {q}")

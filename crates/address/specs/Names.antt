@@ -23,7 +23,14 @@ abbrev pub name_at : List ℕ → ℕ → Name
 name_at s k =
     record {
       m = two_at s k;
-      a = (get_or s (k + 2) 0, get_or s (k + 3) 0, get_or s (k + 4) 0, get_or s (k + 5) 0, get_or s (k + 6) 0, get_or s (k + 7) 0);
+      a = (
+        get_or s (k + 2) 0,
+        get_or s (k + 3) 0,
+        get_or s (k + 4) 0,
+        get_or s (k + 5) 0,
+        get_or s (k + 6) 0,
+        get_or s (k + 7) 0,
+      );
     }
 
 abbrev pub name_of : List ℕ → List ℕ

@@ -4,7 +4,8 @@
 --     table              its lines, index 1 first; `0 ≤ n ≤ 5` is six channels, `n = 0` is one
 --     entry_of i          the line of index i; all zeros where the table has none
 --     channels_of i       how many channels index i has, numbered from 0
---     quarters_of i c     the centre of channel c of index i, in quarters of a kilohertz: c steps above the first centre
+--     quarters_of i c     the centre of channel c of index i, in quarters of a kilohertz: c steps above the first
+--                         centre
 -- A step between channels equals the spacing; lines 4, 5 and 6 have one channel and so no step.
 -- Not here: the columns of bit rates, on which nothing is built. Assumes nothing.
 use Rattle.std.specs.Prelude.{List, [], ◌∷◌, ℕ, zero, suc, ◌+◌, ◌*◌, ◌/◌, get_or}

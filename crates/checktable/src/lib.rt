@@ -9,6 +9,7 @@ ghost use Rattle.std.specs.Prelude.{◌≡◌};
 ghost use Rattle.checktable.specs.Rows.{row_of};
 
 // No number is believed: each is worked out again, bit by bit, from the polynomial.
+#[inline(always)]
 pub fn row(b: u8) -> u64
     ensures { result ≡ row_of b }
 {

@@ -21,7 +21,8 @@ use Rattle.chipreader.specs.declared.Place.{Place}
 use Rattle.chipreader.specs.declared.ChipReader.{ChipReader}
 
 unfoldable pub start_of : List ℕ → ℕ → Place
-start_of s at = cond (in_range s at) (record { at = at; answer = Ready }) (record { at = 0; answer = Refused OutOfRange })
+start_of s at =
+    cond (in_range s at) (record { at = at; answer = Ready }) (record { at = 0; answer = Refused OutOfRange })
 
 abbrev pub place_after : LineCode → ℕ → Word → Place
 place_after κ at (word.Accepted x) = record { at = at + κ.chips; answer = Accepted x }

@@ -1,10 +1,10 @@
 -- A place in a chip buffer (specs/Chips).
---     InBuffer s at      the buffer is not too long, and the place not behind it: what `inRange` tests
---     inRange-inside     such a place is in range
---     inRange-long       in a buffer that is too long no place is
---     inRange-true       a place in range is such a place
---     inRange-kept       so is one for which the test `!in_range(s, at)` failed, as a caller has it at hand
---     inRange-refused    and where that test held the place is out of range
+--     InBuffer s at      the buffer is not too long, and the place not behind it: what `in_range` tests
+--     in_range_inside     such a place is in range
+--     in_range_long       in a buffer that is too long no place is
+--     in_range_true       a place in range is such a place
+--     in_range_kept       so is one for which the test `!in_range(s, at)` failed, as a caller has it at hand
+--     in_range_refused    and where that test held the place is out of range
 use mathlib.Core.Bool.{Bool, true, false, not, cond}
 use mathlib.Core.Path.{◌≡◌, refl, sym, ◌∙◌}
 use mathlib.Core.List.{List}

@@ -4,7 +4,7 @@
 --     word_at s at w    the same for the chips of the bytes s
 --     chip_count s      how many chips the bytes s hold: all eight of each byte, there is no other count
 --     room_limit        a received chip buffer has at most so many bytes (house)
---     inRange s at     document 01's refusal 10 for chips: no longer than that, and the place not behind the last chip
+--     in_range s at     document 01's refusal 10 for chips: no longer than that, and the place not behind the last chip
 -- A place past the end holds 0; every rule above tests the end before it looks.
 use Rattle.std.specs.Prelude.{Bool, false, cond, List, ℕ, zero, suc, ◌+◌, ◌*◌, ◌-◌, ◌/◌, ◌%◌, ◌^◌, leb, length, get_or}
 

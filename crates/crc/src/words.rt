@@ -94,6 +94,7 @@ pub(crate) fn lead(s: &[u8], k: usize) -> u64
 // The register that a word leaves. Five shifts bring it down to forty digits. The lowest sixteen of them stay as they
 // are; the table has what each of the three bytes above adds: byte j of them, counted from the lowest, uses number j of
 // its row, counted from the low end.
+#[inline(always)]
 pub(crate) fn left_by(v: u64) -> u16
     requires { v < folded }
     ensures { result ≡ remainder v }

@@ -3,7 +3,7 @@
 --     left_bytes      the register of the check after bytes is sixteen steps behind what their digits leave
 --     block_left      all right blocks leave the same
 --     unseen_left     so the pattern between two right blocks leaves 0
---     zeros_same      bytes between which no bit differs are the same; zeros-first: and begin alike
+--     zeros_same      bytes between which no bit differs are the same; zeros_first: and begin alike
 -- Assumes nothing.
 use mathlib.Core.Bool.{Bool, true}
 use mathlib.Core.List.{List, [], ◌∷◌, ◌++◌}

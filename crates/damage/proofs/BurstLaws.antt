@@ -1,6 +1,6 @@
 -- Damage within sixteen consecutive bits is always seen (specs/Promise).
 --     burst_window    the pattern of a burst lies within its window
---     burst_seen      in format A, for every width up to 16; burst-behind: in both, behind the length byte
+--     burst_seen      in format A, for every width up to 16; burst_behind: in both, behind the length byte
 --     bursts          the promise: for these widths, and for no others
 -- Assumes nothing.
 use mathlib.Core.List.{List}

@@ -1,6 +1,6 @@
 -- Few inverted bits, and odd numbers of them, are always seen (specs/Promise).
 --     ones-append    ones behind ones
---     five_seen      up to five in format A; near-seen: in both formats, near each other, behind the length byte
+--     five_seen      up to five in format A; near_seen: in both formats, near each other, behind the length byte
 --     odd_seen       odd numbers, behind the length byte
 --     few_bits       the promise: for these numbers, and for no others
 --     one_block      one block with such damage is enough, or with a burst

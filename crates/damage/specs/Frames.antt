@@ -1,13 +1,13 @@
 -- Frames whose damage goes unseen (specs/Promise): what was sent, and what came. docs/DAMAGE.md has them as commands.
---     sent_a, sent_b              format A: Annex C.2's frame (EN 13757-4:2019); format B: a frame with the same counter
---                               value, 43 65 87
+--     sent_a, sent_b              format A: Annex C.2's frame (EN 13757-4:2019); format B: a frame with the same
+--                               counter value, 43 65 87
 --     seventeen_a, seventeen_b    the value came as 42 58 E2: ten bits inverted, within 17 consecutive bits, as the
 --                               check's polynomial has its terms
 --     six_a, six_b                it came as 02 65 D4: six bits, in two bytes
 --     two_bytes_a, two_bytes_b      it came as 80 65 72: ten bits, in two bytes, and decimal again
 --     two_bits                   sent_b with the bits 15 and 166 inverted
---     sent_long, one_bit          format B, bit 6 inverted: the length byte 0E came as 0C, and the last two bytes of the
---                               content are the check of the shorter frame
+--     sent_long, one_bit          format B, bit 6 inverted: the length byte 0E came as 0C, and the last two bytes of
+--                               the content are the check of the shorter frame
 --     sent_odd, seven_bits        format A, seven bits inverted: six in block 1, the length byte among them, which its
 --                               check does not see; one behind the shorter frame that the length byte says now
 use Rattle.std.specs.Prelude.{List, [], ◌∷◌, ℕ}

@@ -200,7 +200,8 @@ pub record MeterNumbers : Type 0 where
   -- by channels::centre_of, kusikhut_centre
   pub exact_centre :
       (i c : ℕ) → c < channels_of i
-      → (centre_of i c ≡ Centre.At (float (quarters_of i c))) × HasValue (float (quarters_of i c)) false (quarters_of i c) 4
+      → (centre_of i c ≡ Centre.At (float (quarters_of i c)))
+      × HasValue (float (quarters_of i c)) false (quarters_of i c) 4
   -- by channels::line_at, kusikhut_band_line
   pub no_line :
       (b : Band) (k : ℕ) → (told_line (line_at b k) ≡ told 13 (0 ∷ 0 ∷ 0 ∷ [])) ↔ (length (lines_of b) ≤ k)
@@ -243,7 +244,8 @@ pub record StoreNumbers : Type 0 where
       → JudgedLent Written.Refused s (store.add_rule a mode format s) (adding a mode format s)
   -- by store::add_by_number, kusikhut_store_add
   pub adding_by_numbers :
-      (s : List ℕ) → Bytes s → (a k j : ℕ) → JudgedLent Written.Refused s (store.add_by_rule a k j s) (adding_by a k j s)
+      (s : List ℕ) → Bytes s → (a k j : ℕ)
+      → JudgedLent Written.Refused s (store.add_by_rule a k j s) (adding_by a k j s)
   -- by store::hear, kusikhut_store_hear
   pub hearing_a_number :
       (s : List ℕ) → Bytes s → (a n : ℕ) → JudgedLent Written.Refused s (store.hear_rule a n s) (hearing_in a n s)
@@ -322,7 +324,8 @@ pub record Plain : Type 0 where
       × ((i : ℕ) → 14 ≤ i → channels_of i ≡ 0)
   -- by channels::rows_of
   pub band_rows :
-      map (λ (b : Band). (rows_of b).first ∷ (rows_of b).count ∷ []) (Band.A ∷ Band.B ∷ Band.C ∷ Band.D ∷ Band.NoSuch ∷ [])
+      map (λ (b : Band). (rows_of b).first ∷ (rows_of b).count ∷ [])
+      (Band.A ∷ Band.B ∷ Band.C ∷ Band.D ∷ Band.NoSuch ∷ [])
       ≡ (1 ∷ 4 ∷ []) ∷ (5 ∷ 2 ∷ []) ∷ (7 ∷ 3 ∷ []) ∷ (10 ∷ 4 ∷ []) ∷ (0 ∷ 0 ∷ []) ∷ []
   -- by channels::lines_of
   pub band_lines :

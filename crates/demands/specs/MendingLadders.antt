@@ -7,8 +7,8 @@
 --                            p; 1 if either has too few bytes; then compare_steps
 --     compare_steps z p s     25; 26 if over 16 bytes differ. Else it is taken, with the number of those that do
 --     propose_rule k f s d    a proposal for the received bytes s: the size by their length byte; then propose_steps
---     propose_steps k z s d   1; 4. Then the code word near what was received, which differs in k bytes or fewer, or the
---                            received word; the bytes of d after it stay
+--     propose_steps k z s d   1; 4. Then the code word near what was received, which differs in k bytes or fewer, or
+--                            the received word; the bytes of d after it stay
 use Rattle.std.specs.Prelude.{List, ◌++◌, ◌⊎◌, ◌≡◌, ℕ, ◌+◌, ◌<◌, length, get_or, take, drop}
 use Rattle.answers.specs.declared.Written.{Written}
 use Rattle.answers.specs.Outcome.{Outcome}

@@ -1,6 +1,6 @@
 -- The orders of document 02, 9/14, a ladder for each call of the settings store: specs/Rules says how a ladder is read,
--- specs/StoreCases what each case means, and sessions/specs/Changes what becomes of a meter (set_to, heard, next) and of
--- a store (with_meter, restored). The numbers are document 02's: 17 if empty, 18, the rest of 17; 19; 20; 21; 22; 4.
+-- specs/StoreCases what each case means, and sessions/specs/Changes what becomes of a meter (set_to, heard, next) and
+-- of a store (with_meter, restored). The numbers are document 02's: 17 if empty, 18, the rest of 17; 19; 20; 21; 22; 4.
 --     keeps s st o    the outcome o of a call that leaves the store st at the start of the memory s, and says its size
 use Rattle.std.specs.Prelude.{true, List, ◌≡◌, ℕ, ◌+◌, ◌≤◌, ◌<◌, length, get_or}
 use Rattle.answers.specs.declared.Written.{Written}

@@ -1,6 +1,6 @@
 -- Writing an extended header (document 01, "Extended headers and names", "Answer numbers").
---     header_writing_of h d    the answer, and what the lent bytes d hold afterwards: 4 if the header does not fit, and d
---                            stays; else the header's length, the header at the start of d, the rest of d
+--     header_writing_of h d    the answer, and what the lent bytes d hold afterwards: 4 if the header does not fit, and
+--                            d stays; else the header's length, the header at the start of d, the rest of d
 -- No other refusal: `HeaderKind` has no fifth case.
 use Rattle.std.specs.Prelude.{List, ◌++◌, cond, ℕ, ltb, length, drop}
 use Rattle.answers.specs.Outcome.{Outcome, leaving}

@@ -1,7 +1,7 @@
 -- The calls that are lent memory: what the caller is told, and what the memory holds then.
 --     call_decode, ..                     what the definition of the crate below gives, told
---     header_of k cc acc m2 sn a2 crc     a header from what a caller in C hands over, A2 and PayloadCRC as their bytes;
---                                        what its kind lacks is not looked at
+--     header_of k cc acc m2 sn a2 crc     a header from what a caller in C hands over, A2 and PayloadCRC as their
+--                                        bytes; what its kind lacks is not looked at
 use Rattle.std.specs.Prelude.{List, ℕ, get_or}
 use Rattle.answers.specs.Outcome.{Outcome}
 use Rattle.line.specs.declared.codes.Code.{Code}
@@ -55,7 +55,10 @@ header_of k cc acc m2 sn a2 crc =
       cc = cc;
       acc = acc;
       receiver =
-          record { m = m2; a = (get_or a2 0 0, get_or a2 1 0, get_or a2 2 0, get_or a2 3 0, get_or a2 4 0, get_or a2 5 0) };
+          record {
+            m = m2;
+            a = (get_or a2 0 0, get_or a2 1 0, get_or a2 2 0, get_or a2 3 0, get_or a2 4 0, get_or a2 5 0);
+          };
       session = record { sn = sn; check = (get_or crc 0 0, get_or crc 1 0) };
     }
 

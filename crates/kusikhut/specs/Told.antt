@@ -156,5 +156,6 @@ refusal_place n = cond (eqb n 3) 5 (cond (eqb n 6) 6 (cond (eqb n 8) 1 2))
 
 -- kind, place of the sync word, positions tried, frame size, content length, wrong block, place of the bad word
 abbrev pub told_reception : Reception → Told ℕ
-told_reception (Reception.Accepted k place tried size n) = told 0 (kind_number k ∷ place ∷ tried ∷ size ∷ n ∷ 0 ∷ 0 ∷ [])
+told_reception (Reception.Accepted k place tried size n) =
+    told 0 (kind_number k ∷ place ∷ tried ∷ size ∷ n ∷ 0 ∷ 0 ∷ [])
 told_reception (Reception.Refused r) = told_refusal 7 (refusal_place (number_of r)) r

@@ -14,8 +14,7 @@ fn reach_number(reach: Reach) -> u64
     }
 }
 
-#[unsafe(no_mangle)]
-pub extern "C" fn kusikhut_maker(m: u16, v: &mut [u64; 5]) -> u8
+pub fn kusikhut_maker(m: u16, v: &mut [u64; 5]) -> u8
     ensures { told result v.new ≡ told_maker (maker_of m) }
 {
     let maker = address::maker_of(m);

@@ -7,16 +7,14 @@ ghost use Rattle.kusikhut.specs.Told.{told, told_centre, told_line};
 use answers::Refusal;
 use channels::{Centre, Line};
 
-#[unsafe(no_mangle)]
-pub extern "C" fn kusikhut_row(index: usize, v: &mut [f64; 3])
+pub fn kusikhut_row(index: usize, v: &mut [f64; 3])
     ensures { v.new ≡ (row_of index).centre ∷ (row_of index).spacing ∷ (row_of index).tolerance ∷ [] }
 {
     let r = channels::row_at(index);
     *v = [r.centre, r.spacing, r.tolerance];
 }
 
-#[unsafe(no_mangle)]
-pub extern "C" fn kusikhut_centre(index: usize, channel: usize, v: &mut [f64; 1]) -> u8
+pub fn kusikhut_centre(index: usize, channel: usize, v: &mut [f64; 1]) -> u8
     ensures { told result v.new ≡ told_centre (centre_of index channel) }
 {
     match channels::centre_of(index, channel) {
@@ -31,8 +29,7 @@ pub extern "C" fn kusikhut_centre(index: usize, channel: usize, v: &mut [f64; 1]
     }
 }
 
-#[unsafe(no_mangle)]
-pub extern "C" fn kusikhut_band_line(s: &[u8], k: usize, v: &mut [u64; 3]) -> u8
+pub fn kusikhut_band_line(s: &[u8], k: usize, v: &mut [u64; 3]) -> u8
     ensures { told result v.new ≡ told_line (line_at (band_of s.now) k) }
 {
     match channels::line_at(channels::band_of(s), k) {

@@ -15,29 +15,25 @@ fn write(f: Format, s: &[u8], d: &mut [u8], v: &mut [u64; 1]) -> u8
     tell_written(correction::write(f, s, d), v)
 }
 
-#[unsafe(no_mangle)]
-pub extern "C" fn kusikhut_correction_write_a(s: &[u8], d: &mut [u8], v: &mut [u64; 1]) -> u8
+pub fn kusikhut_correction_write_a(s: &[u8], d: &mut [u8], v: &mut [u64; 1]) -> u8
     ensures { shown result v.new d.new ≡ call_correct Format.A s.now d.old }
 {
     write(Format::A, s, d, v)
 }
 
-#[unsafe(no_mangle)]
-pub extern "C" fn kusikhut_correction_write_b(s: &[u8], d: &mut [u8], v: &mut [u64; 1]) -> u8
+pub fn kusikhut_correction_write_b(s: &[u8], d: &mut [u8], v: &mut [u64; 1]) -> u8
     ensures { shown result v.new d.new ≡ call_correct Format.B s.now d.old }
 {
     write(Format::B, s, d, v)
 }
 
-#[unsafe(no_mangle)]
-pub extern "C" fn kusikhut_correction_check_bytes(s: &[u8], d: &mut [u8], v: &mut [u64; 1]) -> u8
+pub fn kusikhut_correction_check_bytes(s: &[u8], d: &mut [u8], v: &mut [u64; 1]) -> u8
     ensures { shown result v.new d.new ≡ call_check_bytes s.now d.old }
 {
     tell_written(correction::check_bytes(s, d), v)
 }
 
-#[unsafe(no_mangle)]
-pub extern "C" fn kusikhut_correction_header(s: &[u8]) -> u8
+pub fn kusikhut_correction_header(s: &[u8]) -> u8
     ensures { result ≡ told_announced (announced_of s.now) }
 {
     match correction::announced(s) {

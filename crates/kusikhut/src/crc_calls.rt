@@ -7,15 +7,13 @@ ghost use Rattle.kusikhut.specs.Told.{told, told_updated};
 use crate::answers_calls::{accept, refuse};
 use crc::Updated;
 
-#[unsafe(no_mangle)]
-pub extern "C" fn kusikhut_check(s: &[u8]) -> u16
+pub fn kusikhut_check(s: &[u8]) -> u16
     ensures { result ≡ check_of s.now }
 {
     crc::check(s)
 }
 
-#[unsafe(no_mangle)]
-pub extern "C" fn kusikhut_update(check: u16, old: u8, new: u8, k: usize, v: &mut [u64; 1]) -> u8
+pub fn kusikhut_update(check: u16, old: u8, new: u8, k: usize, v: &mut [u64; 1]) -> u8
     ensures { told result v.new ≡ told_updated (updating check old new k) }
 {
     match crc::update(check, old, new, k) {

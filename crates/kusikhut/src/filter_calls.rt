@@ -6,13 +6,7 @@ ghost use Rattle.kusikhut.specs.Told.{told, told_verdict};
 use crate::answers_calls::{accept, refuse};
 use filter::Verdict;
 
-#[unsafe(no_mangle)]
-pub extern "C" fn kusikhut_filter(
-    entries: &[[u8; 8]; 16],
-    count: usize,
-    s: &[u8],
-    v: &mut [u64; 1],
-) -> u8
+pub fn kusikhut_filter(entries: &[[u8; 8]; 16], count: usize, s: &[u8], v: &mut [u64; 1]) -> u8
     ensures { told result v.new ≡ told_verdict (verdict_of entries.now count s.now) }
 {
     match filter::wanted(*entries, count, s) {

@@ -17,15 +17,13 @@ fn frame_size(f: Format, l: u8, v: &mut [u64; 1]) -> u8
     }
 }
 
-#[unsafe(no_mangle)]
-pub extern "C" fn kusikhut_frame_size_a(l: u8, v: &mut [u64; 1]) -> u8
+pub fn kusikhut_frame_size_a(l: u8, v: &mut [u64; 1]) -> u8
     ensures { told result v.new ≡ told_size (size_for Format.A l) }
 {
     frame_size(Format::A, l, v)
 }
 
-#[unsafe(no_mangle)]
-pub extern "C" fn kusikhut_frame_size_b(l: u8, v: &mut [u64; 1]) -> u8
+pub fn kusikhut_frame_size_b(l: u8, v: &mut [u64; 1]) -> u8
     ensures { told result v.new ≡ told_size (size_for Format.B l) }
 {
     frame_size(Format::B, l, v)
@@ -52,15 +50,13 @@ fn read(f: Format, s: &[u8], d: &mut [u8], v: &mut [u64; 3]) -> u8
     tell_frame(frame::read(f, s, d), v)
 }
 
-#[unsafe(no_mangle)]
-pub extern "C" fn kusikhut_read_a(s: &[u8], d: &mut [u8], v: &mut [u64; 3]) -> u8
+pub fn kusikhut_read_a(s: &[u8], d: &mut [u8], v: &mut [u64; 3]) -> u8
     ensures { shown result v.new d.new ≡ call_read Format.A s.now d.old }
 {
     read(Format::A, s, d, v)
 }
 
-#[unsafe(no_mangle)]
-pub extern "C" fn kusikhut_read_b(s: &[u8], d: &mut [u8], v: &mut [u64; 3]) -> u8
+pub fn kusikhut_read_b(s: &[u8], d: &mut [u8], v: &mut [u64; 3]) -> u8
     ensures { shown result v.new d.new ≡ call_read Format.B s.now d.old }
 {
     read(Format::B, s, d, v)
@@ -72,15 +68,13 @@ fn change(f: Format, d: &mut [u8], k: usize, b: u8, v: &mut [u64; 3]) -> u8
     tell_frame(frame::change(f, d, k, b), v)
 }
 
-#[unsafe(no_mangle)]
-pub extern "C" fn kusikhut_change_a(d: &mut [u8], k: usize, b: u8, v: &mut [u64; 3]) -> u8
+pub fn kusikhut_change_a(d: &mut [u8], k: usize, b: u8, v: &mut [u64; 3]) -> u8
     ensures { shown result v.new d.new ≡ call_change Format.A d.old k b }
 {
     change(Format::A, d, k, b, v)
 }
 
-#[unsafe(no_mangle)]
-pub extern "C" fn kusikhut_change_b(d: &mut [u8], k: usize, b: u8, v: &mut [u64; 3]) -> u8
+pub fn kusikhut_change_b(d: &mut [u8], k: usize, b: u8, v: &mut [u64; 3]) -> u8
     ensures { shown result v.new d.new ≡ call_change Format.B d.old k b }
 {
     change(Format::B, d, k, b, v)
@@ -92,15 +86,13 @@ fn write(f: Format, s: &[u8], d: &mut [u8], v: &mut [u64; 1]) -> u8
     tell_written(frame::write(f, s, d), v)
 }
 
-#[unsafe(no_mangle)]
-pub extern "C" fn kusikhut_write_a(s: &[u8], d: &mut [u8], v: &mut [u64; 1]) -> u8
+pub fn kusikhut_write_a(s: &[u8], d: &mut [u8], v: &mut [u64; 1]) -> u8
     ensures { shown result v.new d.new ≡ call_write Format.A s.now d.old }
 {
     write(Format::A, s, d, v)
 }
 
-#[unsafe(no_mangle)]
-pub extern "C" fn kusikhut_write_b(s: &[u8], d: &mut [u8], v: &mut [u64; 1]) -> u8
+pub fn kusikhut_write_b(s: &[u8], d: &mut [u8], v: &mut [u64; 1]) -> u8
     ensures { shown result v.new d.new ≡ call_write Format.B s.now d.old }
 {
     write(Format::B, s, d, v)

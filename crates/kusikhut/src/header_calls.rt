@@ -10,8 +10,7 @@ use crate::answers_calls::tell_written;
 use address::{Address, Name};
 use header::{Access, Header, HeaderKind, HeaderReading, PayloadCheck, Session};
 
-#[unsafe(no_mangle)]
-pub extern "C" fn kusikhut_access(cc: u8) -> u8
+pub fn kusikhut_access(cc: u8) -> u8
     ensures { result ≡ access_row (access_of cc) }
 {
     match header::announced(cc) {
@@ -48,8 +47,7 @@ fn fields(h: Header, n: usize) -> [u64; 14]
     ]
 }
 
-#[unsafe(no_mangle)]
-pub extern "C" fn kusikhut_header_read(s: &[u8], v: &mut [u64; 14]) -> u8
+pub fn kusikhut_header_read(s: &[u8], v: &mut [u64; 14]) -> u8
     ensures { told result v.new ≡ told_header (header_reading_of s.now) }
 {
     match header::read(s) {
@@ -107,16 +105,14 @@ fn write(
     tell_written(header::write(h, d), v)
 }
 
-#[unsafe(no_mangle)]
-pub extern "C" fn kusikhut_header_write_8c(cc: u8, acc: u8, d: &mut [u8], v: &mut [u64; 1]) -> u8
+pub fn kusikhut_header_write_8c(cc: u8, acc: u8, d: &mut [u8], v: &mut [u64; 1]) -> u8
     ensures { shown result v.new d.new
         ≡ call_header (header_of Plain cc acc 0 0 (replicate 6 0) (replicate 2 0)) d.old }
 {
     write(HeaderKind::Plain, cc, acc, 0, 0, &[0; 6], &[0; 2], v, d)
 }
 
-#[unsafe(no_mangle)]
-pub extern "C" fn kusikhut_header_write_8d(
+pub fn kusikhut_header_write_8d(
     cc: u8,
     acc: u8,
     sn: u32,
@@ -130,8 +126,7 @@ pub extern "C" fn kusikhut_header_write_8d(
     write(HeaderKind::Secured, cc, acc, 0, sn, &[0; 6], crc, v, d)
 }
 
-#[unsafe(no_mangle)]
-pub extern "C" fn kusikhut_header_write_8e(
+pub fn kusikhut_header_write_8e(
     cc: u8,
     acc: u8,
     m2: u16,
@@ -145,8 +140,7 @@ pub extern "C" fn kusikhut_header_write_8e(
     write(HeaderKind::Addressed, cc, acc, m2, 0, a2, &[0; 2], v, d)
 }
 
-#[unsafe(no_mangle)]
-pub extern "C" fn kusikhut_header_write_8f(
+pub fn kusikhut_header_write_8f(
     cc: u8,
     acc: u8,
     m2: u16,

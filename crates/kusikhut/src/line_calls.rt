@@ -24,21 +24,13 @@ fn encode(code: Code, s: &[u8], d: &mut [u8], v: &mut [u64; 1]) -> u8
     tell_written(line::encode(code, s, d), v)
 }
 
-#[unsafe(no_mangle)]
-pub extern "C" fn kusikhut_decode_nrz(
-    s: &[u8],
-    k: usize,
-    n: usize,
-    d: &mut [u8],
-    v: &mut [u64; 1],
-) -> u8
+pub fn kusikhut_decode_nrz(s: &[u8], k: usize, n: usize, d: &mut [u8], v: &mut [u64; 1]) -> u8
     ensures { shown result v.new d.new ≡ call_decode Nrz s.now k n d.old }
 {
     decode(Code::Nrz, s, k, n, d, v)
 }
 
-#[unsafe(no_mangle)]
-pub extern "C" fn kusikhut_decode_three_of_six(
+pub fn kusikhut_decode_three_of_six(
     s: &[u8],
     k: usize,
     n: usize,
@@ -50,8 +42,7 @@ pub extern "C" fn kusikhut_decode_three_of_six(
     decode(Code::ThreeOfSix, s, k, n, d, v)
 }
 
-#[unsafe(no_mangle)]
-pub extern "C" fn kusikhut_decode_manchester(
+pub fn kusikhut_decode_manchester(
     s: &[u8],
     k: usize,
     n: usize,
@@ -63,22 +54,19 @@ pub extern "C" fn kusikhut_decode_manchester(
     decode(Code::Manchester, s, k, n, d, v)
 }
 
-#[unsafe(no_mangle)]
-pub extern "C" fn kusikhut_encode_nrz(s: &[u8], d: &mut [u8], v: &mut [u64; 1]) -> u8
+pub fn kusikhut_encode_nrz(s: &[u8], d: &mut [u8], v: &mut [u64; 1]) -> u8
     ensures { shown result v.new d.new ≡ call_encode Nrz s.now d.old }
 {
     encode(Code::Nrz, s, d, v)
 }
 
-#[unsafe(no_mangle)]
-pub extern "C" fn kusikhut_encode_three_of_six(s: &[u8], d: &mut [u8], v: &mut [u64; 1]) -> u8
+pub fn kusikhut_encode_three_of_six(s: &[u8], d: &mut [u8], v: &mut [u64; 1]) -> u8
     ensures { shown result v.new d.new ≡ call_encode ThreeOfSix s.now d.old }
 {
     encode(Code::ThreeOfSix, s, d, v)
 }
 
-#[unsafe(no_mangle)]
-pub extern "C" fn kusikhut_encode_manchester(s: &[u8], d: &mut [u8], v: &mut [u64; 1]) -> u8
+pub fn kusikhut_encode_manchester(s: &[u8], d: &mut [u8], v: &mut [u64; 1]) -> u8
     ensures { shown result v.new d.new ≡ call_encode Manchester s.now d.old }
 {
     encode(Code::Manchester, s, d, v)
@@ -93,22 +81,19 @@ fn word(code: Code, s: &[u8], k: usize, v: &mut [u64; 1]) -> u8
     }
 }
 
-#[unsafe(no_mangle)]
-pub extern "C" fn kusikhut_word_nrz(s: &[u8], k: usize, v: &mut [u64; 1]) -> u8
+pub fn kusikhut_word_nrz(s: &[u8], k: usize, v: &mut [u64; 1]) -> u8
     ensures { told result v.new ≡ told_word (word_read (code_of Nrz) s.now k) }
 {
     word(Code::Nrz, s, k, v)
 }
 
-#[unsafe(no_mangle)]
-pub extern "C" fn kusikhut_word_three_of_six(s: &[u8], k: usize, v: &mut [u64; 1]) -> u8
+pub fn kusikhut_word_three_of_six(s: &[u8], k: usize, v: &mut [u64; 1]) -> u8
     ensures { told result v.new ≡ told_word (word_read (code_of ThreeOfSix) s.now k) }
 {
     word(Code::ThreeOfSix, s, k, v)
 }
 
-#[unsafe(no_mangle)]
-pub extern "C" fn kusikhut_word_manchester(s: &[u8], k: usize, v: &mut [u64; 1]) -> u8
+pub fn kusikhut_word_manchester(s: &[u8], k: usize, v: &mut [u64; 1]) -> u8
     ensures { told result v.new ≡ told_word (word_read (code_of Manchester) s.now k) }
 {
     word(Code::Manchester, s, k, v)

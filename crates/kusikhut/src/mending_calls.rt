@@ -25,15 +25,13 @@ fn judge(f: Format, p: &[u8], s: &[u8], v: &mut [u64; 1]) -> u8
     tell_proposal(mending::judge(f, p, s), v)
 }
 
-#[unsafe(no_mangle)]
-pub extern "C" fn kusikhut_mending_judge_a(p: &[u8], s: &[u8], v: &mut [u64; 1]) -> u8
+pub fn kusikhut_mending_judge_a(p: &[u8], s: &[u8], v: &mut [u64; 1]) -> u8
     ensures { told result v.new ≡ told_proposal (proposal_of Format.A p.now s.now) }
 {
     judge(Format::A, p, s, v)
 }
 
-#[unsafe(no_mangle)]
-pub extern "C" fn kusikhut_mending_judge_b(p: &[u8], s: &[u8], v: &mut [u64; 1]) -> u8
+pub fn kusikhut_mending_judge_b(p: &[u8], s: &[u8], v: &mut [u64; 1]) -> u8
     ensures { told result v.new ≡ told_proposal (proposal_of Format.B p.now s.now) }
 {
     judge(Format::B, p, s, v)
@@ -45,15 +43,13 @@ fn propose_one(f: Format, s: &[u8], d: &mut [u8], v: &mut [u64; 1]) -> u8
     tell_written(mending::propose_one(f, s, d), v)
 }
 
-#[unsafe(no_mangle)]
-pub extern "C" fn kusikhut_mending_propose_one_a(s: &[u8], d: &mut [u8], v: &mut [u64; 1]) -> u8
+pub fn kusikhut_mending_propose_one_a(s: &[u8], d: &mut [u8], v: &mut [u64; 1]) -> u8
     ensures { shown result v.new d.new ≡ call_propose 1 Format.A s.now d.old }
 {
     propose_one(Format::A, s, d, v)
 }
 
-#[unsafe(no_mangle)]
-pub extern "C" fn kusikhut_mending_propose_one_b(s: &[u8], d: &mut [u8], v: &mut [u64; 1]) -> u8
+pub fn kusikhut_mending_propose_one_b(s: &[u8], d: &mut [u8], v: &mut [u64; 1]) -> u8
     ensures { shown result v.new d.new ≡ call_propose 1 Format.B s.now d.old }
 {
     propose_one(Format::B, s, d, v)
@@ -65,15 +61,13 @@ fn propose(f: Format, s: &[u8], d: &mut [u8], v: &mut [u64; 1]) -> u8
     tell_written(mending::propose(f, s, d), v)
 }
 
-#[unsafe(no_mangle)]
-pub extern "C" fn kusikhut_mending_propose_a(s: &[u8], d: &mut [u8], v: &mut [u64; 1]) -> u8
+pub fn kusikhut_mending_propose_a(s: &[u8], d: &mut [u8], v: &mut [u64; 1]) -> u8
     ensures { shown result v.new d.new ≡ call_propose 16 Format.A s.now d.old }
 {
     propose(Format::A, s, d, v)
 }
 
-#[unsafe(no_mangle)]
-pub extern "C" fn kusikhut_mending_propose_b(s: &[u8], d: &mut [u8], v: &mut [u64; 1]) -> u8
+pub fn kusikhut_mending_propose_b(s: &[u8], d: &mut [u8], v: &mut [u64; 1]) -> u8
     ensures { shown result v.new d.new ≡ call_propose 16 Format.B s.now d.old }
 {
     propose(Format::B, s, d, v)

@@ -70,54 +70,37 @@ fn tell_reception(a: Reception, v: &mut [u64; 7]) -> u8
     }
 }
 
-#[unsafe(no_mangle)]
-pub extern "C" fn kusikhut_receive(
-    s: &[u8],
-    k: usize,
-    allowance: usize,
-    d: &mut [u8],
-    v: &mut [u64; 7],
-) -> u8
+pub fn kusikhut_receive(s: &[u8], k: usize, allowance: usize, d: &mut [u8], v: &mut [u64; 7]) -> u8
     ensures { shown result v.new d.new ≡ call_receive s.now k allowance d.old }
 {
     tell_reception(radio::receive(s, k, allowance, d), v)
 }
 
-#[unsafe(no_mangle)]
-pub extern "C" fn kusikhut_send_t_a(s: &[u8], d: &mut [u8], v: &mut [u64; 1]) -> u8
+pub fn kusikhut_send_t_a(s: &[u8], d: &mut [u8], v: &mut [u64; 1]) -> u8
     ensures { shown result v.new d.new ≡ call_send TWithA s.now d.old }
 {
     send(Kind::TWithA, s, d, v)
 }
 
-#[unsafe(no_mangle)]
-pub extern "C" fn kusikhut_send_c_a(s: &[u8], d: &mut [u8], v: &mut [u64; 1]) -> u8
+pub fn kusikhut_send_c_a(s: &[u8], d: &mut [u8], v: &mut [u64; 1]) -> u8
     ensures { shown result v.new d.new ≡ call_send CWithA s.now d.old }
 {
     send(Kind::CWithA, s, d, v)
 }
 
-#[unsafe(no_mangle)]
-pub extern "C" fn kusikhut_send_c_b(s: &[u8], d: &mut [u8], v: &mut [u64; 1]) -> u8
+pub fn kusikhut_send_c_b(s: &[u8], d: &mut [u8], v: &mut [u64; 1]) -> u8
     ensures { shown result v.new d.new ≡ call_send CWithB s.now d.old }
 {
     send(Kind::CWithB, s, d, v)
 }
 
-#[unsafe(no_mangle)]
-pub extern "C" fn kusikhut_receive_manchester(
-    s: &[u8],
-    k: usize,
-    d: &mut [u8],
-    v: &mut [u64; 7],
-) -> u8
+pub fn kusikhut_receive_manchester(s: &[u8], k: usize, d: &mut [u8], v: &mut [u64; 7]) -> u8
     ensures { shown result v.new d.new ≡ call_manchester s.now k d.old }
 {
     tell_reception(radio::receive_manchester(s, k, d), v)
 }
 
-#[unsafe(no_mangle)]
-pub extern "C" fn kusikhut_send_manchester_a(s: &[u8], d: &mut [u8], v: &mut [u64; 1]) -> u8
+pub fn kusikhut_send_manchester_a(s: &[u8], d: &mut [u8], v: &mut [u64; 1]) -> u8
     ensures { shown result v.new d.new ≡ call_send ManchesterWithA s.now d.old }
 {
     send(Kind::ManchesterWithA, s, d, v)

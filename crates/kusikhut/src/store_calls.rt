@@ -25,15 +25,13 @@ fn tell_value(a: Value, v: &mut [u64; 1]) -> u8
     }
 }
 
-#[unsafe(no_mangle)]
-pub extern "C" fn kusikhut_store_empty(s: &mut [u8], v: &mut [u64; 1]) -> u8
+pub fn kusikhut_store_empty(s: &mut [u8], v: &mut [u64; 1]) -> u8
     ensures { shown result v.new s.new ≡ call_empty s.old }
 {
     tell_written(store::empty(s), v)
 }
 
-#[unsafe(no_mangle)]
-pub extern "C" fn kusikhut_store_add(
+pub fn kusikhut_store_add(
     s: &mut [u8],
     meter: &[u8; 8],
     mode: u8,
@@ -46,34 +44,25 @@ pub extern "C" fn kusikhut_store_add(
     tell_written(store::add_by_number(s, key(*meter), mode, format), v)
 }
 
-#[unsafe(no_mangle)]
-pub extern "C" fn kusikhut_store_hear(
-    s: &mut [u8],
-    meter: &[u8; 8],
-    number: u32,
-    v: &mut [u64; 1],
-) -> u8
+pub fn kusikhut_store_hear(s: &mut [u8], meter: &[u8; 8], number: u32, v: &mut [u64; 1]) -> u8
     ensures { shown result v.new s.new ≡ call_hear s.old meter.now number }
 {
     tell_written(store::hear(s, key(*meter), number), v)
 }
 
-#[unsafe(no_mangle)]
-pub extern "C" fn kusikhut_store_issue(s: &mut [u8], meter: &[u8; 8], v: &mut [u64; 1]) -> u8
+pub fn kusikhut_store_issue(s: &mut [u8], meter: &[u8; 8], v: &mut [u64; 1]) -> u8
     ensures { shown result v.new s.new ≡ call_issue s.old meter.now }
 {
     tell_value(store::issue(s, key(*meter)), v)
 }
 
-#[unsafe(no_mangle)]
-pub extern "C" fn kusikhut_store_restore(s: &mut [u8], file: &[u8], v: &mut [u64; 1]) -> u8
+pub fn kusikhut_store_restore(s: &mut [u8], file: &[u8], v: &mut [u64; 1]) -> u8
     ensures { shown result v.new s.new ≡ call_restore s.old file.now }
 {
     tell_written(store::restore(s, file), v)
 }
 
-#[unsafe(no_mangle)]
-pub extern "C" fn kusikhut_store_write(s: &[u8], d: &mut [u8], v: &mut [u64; 1]) -> u8
+pub fn kusikhut_store_write(s: &[u8], d: &mut [u8], v: &mut [u64; 1]) -> u8
     ensures { shown result v.new d.new ≡ call_write_store s.now d.old }
 {
     tell_written(store::write(s, d), v)
@@ -112,22 +101,19 @@ fn tell_lookup(a: Lookup, v: &mut [u64; 4]) -> u8
     }
 }
 
-#[unsafe(no_mangle)]
-pub extern "C" fn kusikhut_store_look_up(s: &[u8], meter: &[u8; 8], v: &mut [u64; 4]) -> u8
+pub fn kusikhut_store_look_up(s: &[u8], meter: &[u8; 8], v: &mut [u64; 4]) -> u8
     ensures { told result v.new ≡ told_lookup (looking_up (key_at meter.now 0) s.now) }
 {
     tell_lookup(store::look_up(s, key(*meter)), v)
 }
 
-#[unsafe(no_mangle)]
-pub extern "C" fn kusikhut_store_allowance(s: &[u8], v: &mut [u64; 1]) -> u8
+pub fn kusikhut_store_allowance(s: &[u8], v: &mut [u64; 1]) -> u8
     ensures { told result v.new ≡ told_value (allowance_in s.now) }
 {
     tell_value(store::allowance(s), v)
 }
 
-#[unsafe(no_mangle)]
-pub extern "C" fn kusikhut_store_set_allowance(s: &mut [u8], allowance: u32, v: &mut [u64; 1]) -> u8
+pub fn kusikhut_store_set_allowance(s: &mut [u8], allowance: u32, v: &mut [u64; 1]) -> u8
     ensures { shown result v.new s.new ≡ call_set_allowance s.old allowance }
 {
     tell_written(store::set_allowance(s, allowance), v)

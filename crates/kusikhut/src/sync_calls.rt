@@ -5,8 +5,7 @@ ghost use Rattle.kusikhut.specs.Told.{told, told_sync};
 
 use sync::Sync;
 
-#[unsafe(no_mangle)]
-pub extern "C" fn kusikhut_search(s: &[u8], k: usize, allowance: usize, v: &mut [u64; 2]) -> u8
+pub fn kusikhut_search(s: &[u8], k: usize, allowance: usize, v: &mut [u64; 2]) -> u8
     ensures { told result v.new ≡ told_sync (search_of s.now k allowance) }
 {
     match sync::search(s, k, allowance) {

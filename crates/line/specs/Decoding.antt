@@ -1,7 +1,8 @@
 -- Decoding a named number of bytes (document 01, "Answer numbers": 10, 1, 6, 4).
 --     value_at κ s start i        what word i stands for, counted from chip `start` of s
 --     is_word v, number_in v       whether it is a code word; its number
---     good_run f m                how many of the words f 0, .. , f (m - 1) are code words before the first that is none
+--     good_run f m                how many of the words f 0, .. , f (m - 1) are code words before the first that is
+--                                none
 --     decoded_chip κ s start k    bit k of what the words from chip `start` on stand for, one word after the other
 --     decoding κ s start n       the n bytes that the words from chip `start` on stand for
 --     decoded κ s start n d      the answer, and what the lent memory holds then, d before

@@ -1,7 +1,7 @@
 -- The chips that sending writes (specs/Sending, `SentAt`): the sync chips, then the frame's code words.
 --     SyncAt k s place          the chips of s from `place` on begin with the sync chips of kind k
 --     FrameCoded k s place c    behind so many chips the frame of c, which k's format allows, stands in code words
---     sync_at_sent, coded_sent   where c was sent, both stand; sentAt-coded: and where both stand, c was sent
+--     sync_at_sent, coded_sent   where c was sent, both stand; sent_at_coded: and where both stand, c was sent
 --     sync_at_word, sync_at_both  sync chips by words of sixteen, as the search and the tail look at them
 --     word_at_sync               and such words by the sync chips
 use mathlib.Core.Bool.{Bool, true, false}

@@ -1,8 +1,8 @@
 -- Where the four kinds differ (T with A, C with A, C with B, Manchester with A): all else is said once over the kind.
---     unsearched            only Manchester is not searched; syncAt-unsearched: it has no sync chips
+--     unsearched            only Manchester is not searched; sync_at_unsearched: it has no sync chips
 --     searched_fits         the kinds that a tail tells are searched
 --     sync_at_fits           a kind's sync chips are the sync word with a tail of the kind behind it
---     tail_sent             where a kind that is searched was sent, the tail is there; fits-sent: and tells this kind
+--     tail_sent             where a kind that is searched was sent, the tail is there; fits_sent: and tells this kind
 --     reached_sent          what was sent at place 0 is reached there at once
 use mathlib.Core.Bool.{Bool, true, false}
 use mathlib.Core.List.{List}

@@ -1,5 +1,5 @@
 -- Sending and receiving undo each other, for every kind (document 01; specs/Sending, specs/Heard).
---     sending_of_accepts    sending, where content and room are right; sendingOf-accepted: and nothing else is accepted
+--     sending_of_accepts    sending, where content and room are right; sending_of-accepted: and nothing else is accepted
 --     sent_at_among         what was sent stands among other bytes as SentAt says
 --     receiving_of_among    so it is received there, where the call reaches it
 --     sent_heard           receiving what was sent gives back content and kind, at place 0, as the first position tried

@@ -9,7 +9,8 @@
 --     Heard s start a d k place t z n c    a frame of kind k stands where the call looks: its content c, n bytes, has a
 --                                  frame of z bytes, and sending c as kind k writes just these chips; d has room for c;
 --                                  s is not too long (house)
---     heard_of k place t z c d      then the answer names kind, place, positions, frame size and length; d begins with c
+--     heard_of k place t z c d      then the answer names kind, place, positions, frame size and length; d begins with
+--                                  c
 use Rattle.std.specs.Prelude.{Bool, true, false, cond, List, ◌++◌, ◌≡◌, ℕ, ◌≤◌, ltb, length, drop}
 use Rattle.answers.specs.Outcome.{Outcome}
 use Rattle.chips.specs.Chips.{room_limit}
@@ -45,4 +46,5 @@ pub record Heard (s : List ℕ) (start a : ℕ) (d : List ℕ) (k : Kind) (place
   pub room : n ≤ length d
 
 abbrev pub heard_of : Kind → ℕ → ℕ → ℕ → List ℕ → List ℕ → Outcome Reception
-heard_of k place t z c d = record { answer = Reception.Accepted k place t z (length c); memory = c ++ drop (length c) d }
+heard_of k place t z c d =
+    record { answer = Reception.Accepted k place t z (length c); memory = c ++ drop (length c) d }

@@ -6,9 +6,10 @@
 --     length_at κ s at             the length byte: the first of the frame whose first word stands at chip `at`
 --     by_size k place t s d z      by what the length byte says: 2; or the whole frame 1, 6 (its first byte is right
 --                                 already); then as its bytes are read
---     frame_after k place t s d    the frame of kind k whose sync chips stand at `place`, found after t positions: first
---                                 byte 10, 1, 6; then by its length byte
---     reception_of s start a d     search from `start` over at most a positions 10; 7 or 14; tail 1, 8; frame. d is lent
+--     frame_after k place t s d    the frame of kind k whose sync chips stand at `place`, found after t positions:
+--                                 first byte 10, 1, 6; then by its length byte
+--     reception_of s start a d     search from `start` over at most a positions 10; 7 or 14; tail 1, 8; frame. d is
+--                                 lent
 --     manchester_of s start d      the Manchester frame at a named chip: the place is the start, no position was tried
 -- Only the first match is followed, and it is in range: 10 behind it is Manchester's alone. A refusal leaves d as it
 -- was; the place that goes with 6 does not count the sync chips.

@@ -30,7 +30,10 @@ air_size k z = length (sync_bytes k) + encoded_size (line_of k) z
 unfoldable pub putting : Kind → List ℕ → List ℕ → Outcome Written
 putting k p d =
     cond (ltb (length d) (air_size k (length p))) (leaving (Written.Refused Refusal.NoRoom) d)
-    (record { answer = Written.Accepted (air_size k (length p)); memory = air_of k p ++ drop (air_size k (length p)) d })
+    (record {
+      answer = Written.Accepted (air_size k (length p));
+      memory = air_of k p ++ drop (air_size k (length p)) d;
+    })
 
 unfoldable pub sending_of : Kind → List ℕ → List ℕ → Outcome Written
 sending_of k c d =

@@ -11,7 +11,8 @@
 --     right_meter s         whether these twenty bytes are a meter: every length byte, every value in its list
 --     unlike ms fs         whether no meter of fs stands before, in ms or in fs
 --     all_right n s         whether n meters stand at the start of s
---     right_count k s       whether the count stands at place k of s, is at most 64, and bytes for so many meters follow
+--     right_count k s       whether the count stands at place k of s, is at most 64, and bytes for so many meters
+--                           follow
 --     right_body k s        whether, besides, they are meters, none of them twice
 --     whole k s            whether s ends with them
 --     store_in k allowance s    the store that they are
@@ -64,8 +65,8 @@ meters_in (suc n) s = meter_in s ∷ meters_in n (drop 20 s)
 
 abbrev pub right_meter : List ℕ → Bool
 right_meter s =
-    eqb (get_or s 0 0) 8 && (eqb (get_or s 9 0) 1 && (ltb (get_or s 10 0) 6 && (eqb (get_or s 11 0) 1 && (ltb (get_or s 12 0) 2
-    && (eqb (get_or s 13 0) 4 && (eqb (get_or s 18 0) 1 && ltb (get_or s 19 0) 2))))))
+    eqb (get_or s 0 0) 8 && (eqb (get_or s 9 0) 1 && (ltb (get_or s 10 0) 6 && (eqb (get_or s 11 0) 1
+    && (ltb (get_or s 12 0) 2 && (eqb (get_or s 13 0) 4 && (eqb (get_or s 18 0) 1 && ltb (get_or s 19 0) 2))))))
 
 unfoldable pub unlike : List Meter → List Meter → Bool
 unlike ms [] = true
@@ -97,7 +98,8 @@ if_right ok st = cond ok (Keep st) (Refuse BadStore)
 abbrev pub file_of : List ℕ → Result
 file_of s =
     cond (eqb (length s) 0) (Refuse BadStore)
-    (cond (eqb (get_or s 0 0) 2) (if_right (eqb (get_or s 1 0) 4 && (right_body 6 s && whole 6 s)) (store_in 6 (four_at s 2) s))
+    (cond (eqb (get_or s 0 0) 2)
+    (if_right (eqb (get_or s 1 0) 4 && (right_body 6 s && whole 6 s)) (store_in 6 (four_at s 2) s))
     (cond (eqb (get_or s 0 0) 1) (if_right (right_body 1 s && whole 1 s) (store_in 1 16384 s)) (Refuse UnknownVersion)))
 
 abbrev pub memory_size : ℕ

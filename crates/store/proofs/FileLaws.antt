@@ -1,5 +1,5 @@
 -- A file judged by its version, once it is known.
---     byVersion      what is left to judge: the bytes between the version and the count, and what follows
+--     by_version      what is left to judge: the bytes between the version and the count, and what follows
 --     file_of_two, file_of_one    a file of version 2, and of version 1
 --     short          too few bytes for the count: no file
 -- Assumes nothing.

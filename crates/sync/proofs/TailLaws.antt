@@ -5,7 +5,7 @@
 --     tail_of_begun             what a tail that begins a frame says (BegunBy)
 --     begins_there             where a frame begins, its sync chips are all there
 --     kind_for_unknown          a tail that begins like mode C's and is none of them
---     TailFits kind t          the tails of a kind; kind_for_fits, fits-kindFor: exactly these tell it
+--     TailFits kind t          the tails of a kind; kind_for_fits, fits-kind_for: exactly these tell it
 use mathlib.Core.Bool.{false}
 use mathlib.Core.Path.{◌≡◌}
 use mathlib.Core.List.{List}

@@ -226,7 +226,7 @@ impl Implementation for Proved {
         // The program stops reading where refusal 10 is certain, so that the end of a long input may find nobody.
         let _ = program.stdin.take().expect("it was piped").write_all(input);
         let done = program.wait_with_output().expect("the program ends");
-        assert!(done.status.success(), "tools/program words failed: `rt check words` builds the program");
+        assert!(done.status.success(), "tools/program words failed: `rt run` in crates/words builds the program");
         done.stdout
     }
 

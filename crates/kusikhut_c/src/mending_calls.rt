@@ -1,0 +1,49 @@
+// Proposals for received words, in formats A and B: judged, and made where one byte may be wrong or up to sixteen. `p`
+// is a proposal.
+ghost use Rattle.std.specs.Prelude.{◌≡◌};
+ghost use Rattle.frame.specs.declared.Format.{Format};
+ghost use Rattle.proposals.specs.Proposals.{proposal_of};
+ghost use Rattle.kusikhut.specs.Told.{told, shown, told_proposal};
+ghost use Rattle.kusikhut.specs.Calls.{call_propose};
+
+#[unsafe(no_mangle)]
+pub extern "C" fn kusikhut_mending_judge_a(p: &[u8], s: &[u8], v: &mut [u64; 1]) -> u8
+    ensures { told result v.new ≡ told_proposal (proposal_of Format.A p.now s.now) }
+{
+    kusikhut::kusikhut_mending_judge_a(p, s, v)
+}
+
+#[unsafe(no_mangle)]
+pub extern "C" fn kusikhut_mending_judge_b(p: &[u8], s: &[u8], v: &mut [u64; 1]) -> u8
+    ensures { told result v.new ≡ told_proposal (proposal_of Format.B p.now s.now) }
+{
+    kusikhut::kusikhut_mending_judge_b(p, s, v)
+}
+
+#[unsafe(no_mangle)]
+pub extern "C" fn kusikhut_mending_propose_one_a(s: &[u8], d: &mut [u8], v: &mut [u64; 1]) -> u8
+    ensures { shown result v.new d.new ≡ call_propose 1 Format.A s.now d.old }
+{
+    kusikhut::kusikhut_mending_propose_one_a(s, d, v)
+}
+
+#[unsafe(no_mangle)]
+pub extern "C" fn kusikhut_mending_propose_one_b(s: &[u8], d: &mut [u8], v: &mut [u64; 1]) -> u8
+    ensures { shown result v.new d.new ≡ call_propose 1 Format.B s.now d.old }
+{
+    kusikhut::kusikhut_mending_propose_one_b(s, d, v)
+}
+
+#[unsafe(no_mangle)]
+pub extern "C" fn kusikhut_mending_propose_a(s: &[u8], d: &mut [u8], v: &mut [u64; 1]) -> u8
+    ensures { shown result v.new d.new ≡ call_propose 16 Format.A s.now d.old }
+{
+    kusikhut::kusikhut_mending_propose_a(s, d, v)
+}
+
+#[unsafe(no_mangle)]
+pub extern "C" fn kusikhut_mending_propose_b(s: &[u8], d: &mut [u8], v: &mut [u64; 1]) -> u8
+    ensures { shown result v.new d.new ≡ call_propose 16 Format.B s.now d.old }
+{
+    kusikhut::kusikhut_mending_propose_b(s, d, v)
+}
