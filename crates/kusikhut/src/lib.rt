@@ -6,8 +6,6 @@
 // `_calls`, since no module may have a crate's own name.
 #![tactic(auto)]
 
-#![tactic(auto)]
-
 mod answers_calls; // answers_calls.rt: refusals and rows of one result, and what every writer tells
 mod crc_calls; // crc_calls.rt: the block check and its update
 mod line_calls; // line_calls.rt: the line codes alone

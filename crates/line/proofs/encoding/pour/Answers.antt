@@ -30,7 +30,7 @@ ready : (c : Joined-count-lt8)
 ready c =
     let inv = c.loop-j.invariant in
     elim c.if-count-lt8.branch [
-      then-count-lt8 w ↦ (
+      | then-count-lt8 w ↦ (
         rw (w.held-is ∙ w.join-held.ensures, w.count-is, w.i-is)
             (held_more inv.at_hand (rw c.unit-unit.ensures w.coded_byte.ensures)),
         (omega (arith, w.count-is, inv.source.unit_ge), omega (arith, w.count-is, inv.source.unit_le, w.if-count-lt8.true)),

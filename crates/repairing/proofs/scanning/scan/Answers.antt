@@ -17,14 +17,17 @@ visit-next-requires c =
     let g = l.invariant.0 in
     let k = g.coefficients in
     let wide : length l.w ≤ 255 = omega (arith, g.word.count, g.word.most) in
-    let inside : l.place + 1 < length l.w = omega (arith, g.word.count, c.loop-place-test.true) in record { tables_ok = c.requires.tables_ok; ready = record {
+    let inside : l.place + 1 < length l.w = omega (arith, g.word.count, c.loop-place-test.true) in record {
+      tables_ok = c.requires.tables_ok;
+      ready = record {
         most = wide;
         values = g.word.held.count;
         room = k.room;
         short = k.short;
         some = ltb-true 0 l.degree c.if-degree-gt0.true-raw;
         inside = inside;
-      } }
+      };
+    }
 
 pub loop-place-smaller : goal.loop-place-smaller
 loop-place-smaller c =

@@ -20,14 +20,17 @@ returns-then-y-eq0 c =
 
 pub error_at-e-requires : goal.error_at-e-requires
 error_at-e-requires c =
-    let ready = c.requires.ready in record { tables_ok = c.requires.tables_ok; s_len = (
+    let ready = c.requires.ready in record {
+      tables_ok = c.requires.tables_ok;
+      s_len = (
         ready.values,
         (
           short_left ready c.value_at.ensures c.if-value_at-ne0.false c.divide.ensures refl
               c.value_at-y.ensures,
           (pos_of_ne-zero c.if-y-eq0.false, omega (arith, ready.inside, ready.most)),
         ),
-      ) }
+      );
+    }
 
 pub correct-requires : goal.correct-requires
 correct-requires c =
