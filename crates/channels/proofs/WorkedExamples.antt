@@ -5,7 +5,7 @@
 use mathlib.Core.List.{List, [], ◌∷◌, map}
 use mathlib.Core.Path.{◌≡◌, refl}
 use Prim.Native.Nat.{ℕ, ◌*◌}
-use Rattle.channels.specs.Table21.{Entry, table, entry_of, quarters_of}
+use Rattle.channels.specs.Table21.{table, entry_of, quarters_of}
 
 abbrev columns : ℕ → List ℕ
 columns i = (entry_of i).centre ∷ (entry_of i).spacing ∷ (entry_of i).tolerance ∷ (entry_of i).channels ∷ []

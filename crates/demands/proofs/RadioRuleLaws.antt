@@ -45,7 +45,7 @@ use Rattle.radio.specs.Receiving.{after_words, length_at, by_frame, by_size, fra
 use Rattle.radio.specs.Sending.{air_size, putting, sending_of, SentAt}
 use Rattle.radio.specs.Heard.{heard_of}
 use Rattle.demands.specs.Rules.{Rule, ◌when◌else◌, ◌showing◌else◌, accept, JudgedLent}
-use Rattle.demands.specs.Cases.{OutOfRange, ChipsEnd, FirstNoWord, Announces, FirstWrongBlock, BadContent}
+use Rattle.demands.specs.Cases.{ChipsEnd, FirstNoWord, Announces, FirstWrongBlock}
 use Rattle.demands.specs.Ladders.{frame_steps, receive_rule, manchester_rule, send_rule, tail_steps}
 use Rattle.demands.proofs.RuleLaws.{Follows, judged_lent, taken_bare, passed_bare, tells-lt, follows-lt, follows_unless, never_refused, written_refused}
 use Rattle.demands.proofs.CaseLaws.{range_kept, range_left, announces_allowed, announces_same}

@@ -22,7 +22,7 @@ use Rattle.sync.specs.Tails.{kind_for, tail_of}
 use Rattle.sync.proofs.TailLaws.{TailFits, kind_for_fits, fits-kind_for, kind_for_unknown, tail_of_outside}
 use Rattle.sync.proofs.SearchLaws.{Ends, search_for_ends, gone, nowhere_passed, passed-lt_first}
 use Rattle.demands.specs.Rules.{Rule, ◌showing◌else◌, given, accept, Judged}
-use Rattle.demands.specs.Cases.{OutOfRange, NoSyncIn, UnknownTail, TailIs}
+use Rattle.demands.specs.Cases.{NoSyncIn, UnknownTail, TailIs}
 use Rattle.demands.specs.Ladders.{search_steps, search_rule, tail_steps, tail_rule}
 use Rattle.demands.proofs.RuleLaws.{Follows, judged, taken_bare, taken_showing, passed_bare, tells-lt}
 use Rattle.demands.proofs.CaseLaws.{range_kept, range_left}

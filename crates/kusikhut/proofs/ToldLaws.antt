@@ -1,7 +1,7 @@
 -- An answer told as a row, with the memory that the call left, is the outcome told; a reception's row has its places.
 --     settled_told, settled_shown    two calls that are told the same have the same number, row and lent memory: what
 --                                    the contract of an exported function allows is one outcome (docs/SETTLED.md)
-use mathlib.Core.Path.{◌≡◌, ◌∙◌, refl, ap}
+use mathlib.Core.Path.{◌≡◌, refl, ap}
 use mathlib.Core.Bool.{Bool, true, false, cond}
 use mathlib.Core.List.{List}
 use Prim.Native.Nat.{ℕ, ◌<◌}

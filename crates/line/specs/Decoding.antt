@@ -9,7 +9,6 @@
 -- A place after the last chip is no start (10); the chip count itself is one, at which only 0 bytes can be decoded.
 use Rattle.std.specs.Prelude.{Bool, true, false, cond, List, ◌++◌, ℕ, zero, suc, ◌+◌, ◌*◌, ltb, eqb, length, drop}
 use Rattle.answers.specs.Outcome.{Outcome, leaving}
-use Rattle.answers.specs.declared.Refusal.{Refusal}
 use Rattle.answers.specs.declared.Refusal.TheVariants.{Short, NoRoom, BadWord, OutOfRange}
 use Rattle.chips.specs.Chips.{word_at, chip_count, in_range}
 use Rattle.chips.specs.Packing.{spread, packed}

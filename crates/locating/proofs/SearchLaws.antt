@@ -5,20 +5,16 @@
 --     found            how it ends
 -- Assumes nothing.
 use mathlib.Core.List.{List, [], ◌∷◌, ◌++◌}
-use mathlib.Core.Logic.{⊎_elim}
-use mathlib.Core.Path.{◌≡◌, refl, sym, ap, ap₂, subst, ◌∙◌}
+use mathlib.Core.Path.{◌≡◌, refl, sym, ap, subst, ◌∙◌}
 use Prim.Native.Nat.{ℕ, zero, suc, ◌-◌, ◌+◌, ◌≤◌, ◌<◌}
-use native.Mathlib.Nat.{eq-or-lt_of_le}
 use native.Mathlib.Omega.{arith}
 use borrow.Author.Tests.{eqb-true, eqb-false}
 use lib.Dec.{eqb}
-use lib.ListN.{length, get_or, take, drop, set, replicate, length-set, get_or-replicate, length-append, length-drop, get_or-eq_default}
-use lib.Seq.{get_or-set_same, get_or-set_other, get_or-drop, ext_get_or}
+use lib.ListN.{length, get_or, drop, set, replicate, length-set, get_or-replicate, length-append, length-drop, get_or-eq_default}
+use lib.Seq.{get_or-set_same, get_or-set_other, get_or-drop}
 use Rattle.ground.specs.Bytes.{Bytes}
 use Rattle.ground.proofs.ByteLaws.{bytes-nil, bytes-cons, bytes-append, bytes_drop, bytes-set}
 use Rattle.ground.proofs.CaseLaws.{by_test}
-use Rattle.field.specs.Field.{mul}
-use Rattle.field.proofs.FieldLaws.{mul-zero_l}
 use Rattle.field.proofs.DampLaws.{weight, weight-le}
 use Rattle.locators.specs.Combinations.{combined}
 use Rattle.locators.proofs.CombineLaws.{combined_up}

@@ -10,9 +10,9 @@
 use mathlib.Core.Path.{◌≡◌, refl, sym, ap, ap₂, ◌∙◌}
 use mathlib.Core.List.{List, [], ◌∷◌, ◌++◌}
 use Prim.Native.Nat.{ℕ, zero, suc, ◌+◌, ◌-◌, ◌*◌, ◌<◌, ◌≤◌}
-use native.Mathlib.Nat.{mul-add, add-mul, mul_comm}
+use native.Mathlib.Nat.{add-mul, mul_comm}
 use native.Mathlib.Omega.{arith}
-use lib.Bits.{bit_xor, xor_lt, xor_self, xor_zero_r}
+use lib.Bits.{bit_xor}
 use lib.ListN.{length, get_or, replicate, length-append}
 use Rattle.ground.specs.Bytes.{Bytes}
 use Rattle.ground.specs.Sums.{xors}
@@ -24,7 +24,7 @@ use Rattle.field.specs.Polynomials.{eval_from, value_at, scaled}
 use Rattle.field.proofs.FieldLaws as field
 use Rattle.field.proofs.PowerLaws.{alpha_to-lt}
 use Rattle.field.proofs.StepLaws.{step_to, step_to-add}
-use Rattle.field.proofs.PolynomialLaws.{value_cons, eval_lt, length_scaled}
+use Rattle.field.proofs.PolynomialLaws.{value_cons, length_scaled}
 use Rattle.field.proofs.DampLaws.{weight, weight_one}
 use Rattle.locators.specs.Combinations.{combined}
 use Rattle.locators.proofs.OverLaws.{over, over_same, over_sum, over_times, over-lt, over_none, eval_first, value_over}

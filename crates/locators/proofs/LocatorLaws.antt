@@ -3,7 +3,7 @@
 --     located      at most 16 bytes are not 0: it is 0 at the locator of each
 --     alone_value  0 at the locators of all but one: the combined values are that byte's alone
 -- Assumes nothing.
-use mathlib.Core.Path.{◌≡◌, refl, sym, ap, ap₂, ◌∙◌}
+use mathlib.Core.Path.{◌≡◌, refl, sym, ap, ◌∙◌}
 use mathlib.Core.List.{List}
 use mathlib.Core.Logic.{◌⊎◌, inl, inr, ⊎_elim}
 use Prim.Native.Nat.{ℕ, zero, suc, ◌+◌, ◌-◌, ◌*◌, ◌<◌, ◌≤◌}
@@ -19,7 +19,7 @@ use Rattle.field.proofs.PolynomialLaws.{eval_lt}
 use Rattle.field.proofs.DampLaws.{weight, weight_zeros}
 use Rattle.field.proofs.DistanceLaws.{vanish}
 use Rattle.locators.specs.Combinations.{combined}
-use Rattle.locators.proofs.OverLaws.{over, over_alone, value_over}
+use Rattle.locators.proofs.OverLaws.{over_alone, value_over}
 use Rattle.locators.proofs.CombineLaws.{Values, share, combined_over, weighed, length-weighed, bytes-weighed, weighed_at, weighed_weight, over-weighed}
 
 -- one of two factors is 0

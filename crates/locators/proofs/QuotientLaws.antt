@@ -9,14 +9,14 @@
 -- Assumes nothing.
 use mathlib.Core.Path.{◌≡◌, refl, sym, ap, ap₂, ◌∙◌}
 use mathlib.Core.List.{List, [], ◌∷◌, ◌++◌}
-use Prim.Native.Nat.{ℕ, zero, suc, ◌<◌}
+use Prim.Native.Nat.{ℕ, suc, ◌<◌}
 use native.Mathlib.Nat.{pos_of_ne-zero}
 use native.Mathlib.Omega.{arith}
 use lib.Bits.{bit_xor, xor_lt, xor_self, xor_zero_r}
 use lib.ListN.{length, get_or}
 use Rattle.ground.specs.Bytes.{Bytes}
 use Rattle.ground.proofs.ByteLaws.{bytes-nil, bytes-cons}
-use Rattle.ground.proofs.XorLaws.{xor_swap, xor_assoc, xor_last, xor_cancel_r, xor_equal}
+use Rattle.ground.proofs.XorLaws.{xor_swap, xor_assoc, xor_cancel_r, xor_equal}
 use Rattle.field.specs.Field.{mul}
 use Rattle.field.specs.Polynomials.{eval_from, value_at}
 use Rattle.field.proofs.FieldLaws.{mul-xor_l, mul-xor_r, mul-zero_l, mul_swap, mul-lt}

@@ -7,16 +7,15 @@
 -- Assumes nothing.
 use mathlib.Core.List.{List}
 use mathlib.Core.Path.{◌≡◌, refl, sym, ap, ap₂, ◌∙◌}
-use Prim.Native.Nat.{ℕ, suc, ◌+◌, ◌-◌, ◌*◌, ◌/◌, ◌%◌, ◌≤◌, ◌<◌}
+use Prim.Native.Nat.{ℕ, ◌+◌, ◌-◌, ◌*◌, ◌/◌, ◌%◌, ◌≤◌, ◌<◌}
 use native.Mathlib.Nat.{add-mul-mod_self_left, mod-eq_of_lt}
 use native.Mathlib.Omega.{arith}
-use lib.ListN.{length, get_or}
+use lib.ListN.{get_or}
 use Rattle.ground.specs.Bytes.{Bytes}
 use Rattle.field.specs.Field.{mul, alpha_to}
 use Rattle.field.proofs.PowerLaws.{alpha_to-add, alpha_to-mod, power_cancel}
 use Rattle.field.proofs.PrimitiveLaws.{log, log-lt, alpha_to_log}
 use Rattle.products.specs.Tables.{TablesOk}
-use Rattle.mending.specs.declared.single.Fault.{Fault}
 use Rattle.mending.specs.Inner.{Locates}
 
 -- ---- the numbers

@@ -6,25 +6,25 @@
 --     still_nearest    where none but the first could be wrong, the word itself is proposed
 --     tried_nearest    where one may be, what comes out of trying
 -- Assumes nothing.
-use mathlib.Core.Bool.{Bool, true, false, cond, false≢true}
-use mathlib.Core.List.{List, ◌++◌}
+use mathlib.Core.Bool.{Bool, true, false, cond}
+use mathlib.Core.List.{List}
 use mathlib.Core.Logic.{⊎_elim}
 use mathlib.Core.Path.{◌≡◌, refl, sym, ap, ap₂, subst, ◌∙◌}
-use Prim.Native.Nat.{ℕ, suc, ◌+◌, ◌-◌, ◌*◌, ◌≤◌, ◌<◌}
+use Prim.Native.Nat.{ℕ, ◌+◌, ◌-◌, ◌≤◌, ◌<◌}
 use native.Mathlib.Omega.{arith}
 use lib.Bits.{bit_xor, xor_zero_r, xor_lt}
 use lib.ListN.{length, get_or, take, drop, set, length-set, length-drop, take-append-drop}
-use lib.Seq.{set-get_or, set_out, get_or-set_same, get_or-set_other, set-set}
+use lib.Seq.{set-get_or, get_or-set_same, get_or-set_other}
 use Rattle.ground.specs.Bytes.{Bytes}
 use Rattle.ground.specs.Sums.{xors}
 use Rattle.ground.proofs.ApartLaws.{apart-set}
 use Rattle.ground.proofs.ByteLaws.{bytes_take, bytes-set}
-use Rattle.field.specs.Field.{mul, alpha_to}
+use Rattle.field.specs.Field.{alpha_to}
 use Rattle.field.specs.Polynomials.{value_at}
 use Rattle.codewords.specs.CodeBlocks.{root, CodeBlock}
 use Rattle.codewords.specs.CheckBytes.{checks_of}
 use Rattle.codewords.proofs.RootLaws.{low_root, root_low}
-use Rattle.proposals.specs.Near.{Near, Nearest, is_code_block, nearest_of}
+use Rattle.proposals.specs.Near.{Near, is_code_block, nearest_of}
 use Rattle.proposals.proofs.CodeLaws.{is_code_block_code, not_code_block_not}
 use Rattle.proposals.proofs.NearestLaws.{near, near_self, near_same, nearest_is, nearest_near}
 use Rattle.proposals.proofs.OneByteLaws.{remainder_value, Differ, differ_one, error, place, error-lt, error_positive, one_value, mended, front_place}

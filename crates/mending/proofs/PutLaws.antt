@@ -4,14 +4,12 @@
 -- Assumes nothing.
 use mathlib.Core.List.{List, ◌++◌}
 use mathlib.Core.Path.{◌≡◌, sym, ap, ap₂, ◌∙◌}
-use Prim.Native.Nat.{ℕ, ◌+◌, ◌-◌, ◌≤◌}
+use Prim.Native.Nat.{ℕ, ◌+◌, ◌≤◌}
 use native.Mathlib.Nat.{zero-add}
 use native.Mathlib.Omega.{arith}
 use lib.ListN.{length, take, drop}
 use lib.Seq.{paste, take_at, drop_at, drop-drop, length-take-le}
 use Rattle.proposals.specs.Received.{received}
-use Rattle.proposals.specs.Near.{nearest_of}
-use Rattle.proposals.proofs.ReceivedLaws.{length-received}
 
 module _ (s d : List ℕ) (z : ℕ) (there : z + 34 ≤ length s) where
   length_frame : length (take z s) ≡ z

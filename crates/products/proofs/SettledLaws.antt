@@ -9,7 +9,7 @@ use native.Mathlib.Omega.{arith}
 use borrow.Author.Tests.{ltb-true, ltb-false}
 use lib.Bits.{bit_xor, xor_lt, xor_self}
 use lib.Dec.{ltb}
-use lib.ListN.{length, get_or}
+use lib.ListN.{get_or}
 use lib.Seq.{ext_get_or}
 use Rattle.ground.proofs.CaseLaws.{by_test}
 use Rattle.ground.proofs.XorLaws.{xor_equal}

@@ -4,7 +4,7 @@
 --     code_checks, checks_code    a word of bytes with 32 bytes behind it is a code word exactly where they are its
 --                                 check bytes: so a program may work these out and compare
 -- Assumes nothing.
-use mathlib.Core.Bool.{true, false, ◌&&◌, false≢true}
+use mathlib.Core.Bool.{true, false, false≢true}
 use mathlib.Core.List.{List, ◌++◌}
 use mathlib.Core.Logic.{⊎_elim}
 use mathlib.Core.Path.{◌≡◌, refl, sym, ap, subst, ◌∙◌}
@@ -17,7 +17,7 @@ use lib.ListN.{length}
 use Rattle.ground.specs.Bytes.{Bytes}
 use Rattle.ground.proofs.CaseLaws.{and_left, and_right}
 use Rattle.field.specs.Polynomials.{value_at}
-use Rattle.codewords.specs.CodeBlocks.{root, CodeBlock, Corrects}
+use Rattle.codewords.specs.CodeBlocks.{root, CodeBlock}
 use Rattle.codewords.specs.CheckBytes.{checks_of}
 use Rattle.codewords.proofs.DivisionLaws as division
 use Rattle.codewords.proofs.FillLaws.{fill_code}

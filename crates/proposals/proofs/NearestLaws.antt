@@ -7,11 +7,10 @@
 --     near             what makes a code word near
 --     near_self        a code word is near itself
 -- Assumes nothing.
-use mathlib.Core.Bool.{true}
 use mathlib.Core.List.{List, [], ◌∷◌, map}
 use mathlib.Core.Logic.{inl, inr, ⊎_elim}
 use mathlib.Core.Path.{◌≡◌, refl, sym, ap, subst, ◌∙◌}
-use Prim.Native.Nat.{ℕ, zero, suc, ◌≤◌}
+use Prim.Native.Nat.{ℕ, suc, ◌≤◌}
 use native.Mathlib.Omega.{arith}
 use lib.ListN.{length, get_or}
 use Rattle.ground.specs.Apart.{apart}
@@ -21,9 +20,9 @@ use Rattle.ground.proofs.ByteLaws.{bytes-cons}
 use Rattle.field.specs.Polynomials.{eval_from}
 use Rattle.codewords.specs.CodeBlocks.{CodeBlock}
 use Rattle.codewords.proofs.NearLaws.{near_one}
-use Rattle.proposals.specs.Near.{Near, Nearest, is_code_block, around, first_code_block, nearest_of}
+use Rattle.proposals.specs.Near.{Near, Nearest, around, nearest_of}
 use Rattle.proposals.proofs.CodeLaws.{is_code_block_code, code-is_code_block}
-use Rattle.proposals.proofs.AroundLaws.{Among, Begins, among-map, map_among, Around, around_are, around-all, rest_kept, Found, NoneOf, first_code_block_is}
+use Rattle.proposals.proofs.AroundLaws.{Among, among-map, map_among, Around, around_are, around-all, rest_kept, Found, NoneOf, first_code_block_is}
 
 pub near :
     {k : ℕ} {w c : List ℕ} → Bytes c → CodeBlock c → length c ≡ length w → get_or c 0 0 ≡ get_or w 0 0 → apart w c ≤ k

@@ -13,7 +13,7 @@ use native.Mathlib.Omega.{arith}
 use borrow.Author.Tests.{ltb-true, ltb-false}
 use lib.Dec.{ltb}
 use lib.ListN.{length, get_or, take, drop, set, length-append, length-drop, get_or-append}
-use lib.Seq.{length-take-le, get_or-take, set-append_left, set_out, take-set-le, take-set-lt, drop-set-lt, drop-set-add}
+use lib.Seq.{length-take-le, get_or-take, set-append_left, take-set-le, take-set-lt, drop-set-lt, drop-set-add}
 use Rattle.ground.specs.Bytes.{Bytes}
 use Rattle.ground.proofs.BehindLaws.{set-append-add}
 use Rattle.ground.proofs.ByteLaws.{bytes-append, bytes_take, bytes_drop}

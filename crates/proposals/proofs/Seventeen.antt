@@ -22,7 +22,7 @@ use Rattle.field.specs.Field.{up, times_bits, mul}
 use Rattle.field.specs.Polynomials.{scaled}
 use Rattle.frame.specs.declared.Format.{Format}
 use Rattle.frame.specs.declared.Frame.{Frame}
-use Rattle.frame.specs.Formats.{frame_size, size_for}
+use Rattle.frame.specs.Formats.{frame_size}
 use Rattle.frame.specs.Judging.{by_checks, by_length, judge_of}
 use Rattle.codewords.specs.CheckBytes.{step_in, rem_of}
 use Rattle.codewords.proofs.NumbersLaws.{checks_of-numbers}

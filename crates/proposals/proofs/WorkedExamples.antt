@@ -5,8 +5,7 @@
 --     seventeen_differ   17: 26
 --     no_code_word       the proposal has one wrong byte, and 17 bytes differ: 25, since 25 is judged first
 -- Assumes nothing.
-use mathlib.Core.Bool.{false}
-use mathlib.Core.List.{List, [], ◌∷◌, ◌++◌}
+use mathlib.Core.List.{List, ◌∷◌, ◌++◌}
 use mathlib.Core.Path.{◌≡◌, refl, sym, ◌∙◌}
 use Prim.Native.Nat.{ℕ}
 use native.Mathlib.Omega.{arith}
@@ -20,7 +19,6 @@ use Rattle.field.specs.Field.{up, times_bits, mul, alpha_to}
 use Rattle.field.specs.Polynomials.{eval_from, scaled}
 use Rattle.blocks.specs.Spans.{size_of, cut}
 use Rattle.frame.specs.declared.Format.{Format}
-use Rattle.frame.specs.declared.Frame.{Frame}
 use Rattle.frame.specs.Formats.{frame_size}
 use Rattle.frame.proofs.WorkedExamples.{bytes_C2}
 use Rattle.codewords.specs.CodeBlocks.{root}
@@ -29,7 +27,7 @@ use Rattle.codewords.proofs.AnnexC.{checks_C2}
 use Rattle.codewords.proofs.NumbersLaws.{checks_of-numbers}
 use Rattle.proposals.specs.declared.Proposal.{Proposal}
 use Rattle.proposals.specs.Received.{not_too_long, size_in, received}
-use Rattle.proposals.specs.Near.{all_zero, is_code_block}
+use Rattle.proposals.specs.Near.{all_zero}
 use Rattle.proposals.specs.Proposals.{compared, proposal_by, proposal_of}
 use Rattle.proposals.proofs.ProposalLaws.{proposal_compared, compared_far}
 use Rattle.proposals.proofs.WorkedLaws.{worked_code, worked_taken}

@@ -7,10 +7,9 @@
 --     one_byte_near    where one byte of a code word is wrong, but not the first, the code word is near
 --     taken_judged     a taken frame is whole
 -- Assumes nothing.
-use mathlib.Core.Bool.{cond}
 use mathlib.Core.List.{List, [], ◌++◌, append-nil}
-use mathlib.Core.Logic.{◌⊎◌, inl, inr, ⊎_elim}
-use mathlib.Core.Path.{◌≡◌, refl, sym, ap, ap₂, subst, ◌∙◌}
+use mathlib.Core.Logic.{◌⊎◌, inl, inr}
+use mathlib.Core.Path.{◌≡◌, sym, ap, subst, ◌∙◌}
 use Prim.Native.Nat.{ℕ, ◌+◌, ◌≤◌, ◌<◌}
 use native.Mathlib.Omega.{arith}
 use lib.ListN.{length, get_or, take, drop, set, length-append, length-set, get_or-append}
@@ -32,7 +31,7 @@ use Rattle.codewords.specs.CodeBlocks.{CodeBlock}
 use Rattle.codewords.proofs.NearLaws.{near_one}
 use Rattle.proposals.specs.declared.Proposal.{Proposal}
 use Rattle.proposals.specs.Received.{received}
-use Rattle.proposals.specs.Near.{Near, nearest_of}
+use Rattle.proposals.specs.Near.{Near}
 use Rattle.proposals.specs.Proposals.{proposal_of, proposing_of}
 use Rattle.proposals.specs.TakenWith.{TakenWith}
 use Rattle.proposals.proofs.CodeLaws.{code-is_code_block}

@@ -17,7 +17,6 @@ use Rattle.answers.specs.declared.Refusal.{Refusal}
 use Rattle.chips.specs.Chips.{chip_count, in_range}
 use Rattle.line.specs.Codes.{LineCode, words_in, chips_in}
 use Rattle.line.specs.Decoding.{value_at, good_run, decoding, decoded}
-use Rattle.line.specs.Decoding as line
 use Rattle.line.specs.declared.decoding.Decoded.{Decoded}
 use Rattle.line.proofs.AnswerLaws.{decoded_accepts, decoded-accepted}
 use Rattle.line.proofs.TripLaws.{length-decoding}

@@ -4,7 +4,7 @@
 --     sync_at_fits           a kind's sync chips are the sync word with a tail of the kind behind it
 --     tail_sent             where a kind that is searched was sent, the tail is there; fits_sent: and tells this kind
 --     reached_sent          what was sent at place 0 is reached there at once
-use mathlib.Core.Bool.{Bool, true, false}
+use mathlib.Core.Bool.{true, false}
 use mathlib.Core.List.{List}
 use mathlib.Core.Path.{◌≡◌, refl, ap, sym, ◌∙◌}
 use Prim.Native.Nat.{ℕ, ◌+◌, ◌/◌, ◌≤◌, ◌<◌}

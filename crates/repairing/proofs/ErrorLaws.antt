@@ -11,21 +11,20 @@ use mathlib.Core.Path.{◌≡◌, refl, sym, ap, ap₂, subst, ◌∙◌}
 use Prim.Native.Nat.{ℕ, suc, ◌+◌, ◌-◌, ◌*◌, ◌≤◌, ◌<◌}
 use native.Mathlib.Omega.{arith}
 use lib.Bits.{bit_xor, xor_lt, xor_self, xor_zero_r}
-use lib.ListN.{length, get_or, set}
+use lib.ListN.{length, get_or}
 use Rattle.ground.specs.Bytes.{Bytes}
 use Rattle.ground.specs.Sums.{xors}
 use Rattle.ground.proofs.ByteLaws.{bytes-set}
 use Rattle.ground.proofs.SumLaws.{length-xors, bytes-xors, get_d_xors}
 use Rattle.ground.proofs.XorLaws.{xor_equal}
-use Rattle.field.specs.Field.{mul, alpha_to}
+use Rattle.field.specs.Field.{mul}
 use Rattle.field.specs.Polynomials.{value_at}
 use Rattle.field.proofs.FieldLaws.{mul-xor_l, mul-lt}
-use Rattle.field.proofs.PowerLaws.{alpha_to-lt}
 use Rattle.field.proofs.PrimitiveLaws.{mul_cancel}
 use Rattle.field.proofs.StepLaws.{step_to}
 use Rattle.field.proofs.PolynomialLaws.{eval_xors}
 use Rattle.locators.specs.Combinations.{combined}
-use Rattle.locators.proofs.OverLaws.{over, over-set, value_over}
+use Rattle.locators.proofs.OverLaws.{over-set, value_over}
 use Rattle.locators.proofs.CombineLaws.{Values}
 use Rattle.locators.proofs.LocatorLaws.{alone_value}
 use Rattle.codewords.specs.CodeBlocks.{root}

@@ -8,13 +8,13 @@
 -- Assumes nothing.
 use mathlib.Core.List.{List, [], ◌∷◌, ◌++◌}
 use mathlib.Core.Logic.{◌⊎◌, inl, inr, ⊎_elim}
-use mathlib.Core.Path.{◌≡◌, refl, sym, ap, ap₂, subst, ◌∙◌}
-use Prim.Native.Nat.{ℕ, zero, suc, ◌+◌, ◌-◌, ◌*◌, ◌≤◌, ◌<◌}
+use mathlib.Core.Path.{◌≡◌, sym, ap, ap₂, subst, ◌∙◌}
+use Prim.Native.Nat.{ℕ, suc, ◌+◌, ◌-◌, ◌≤◌, ◌<◌}
 use native.Mathlib.Omega.{arith}
 use borrow.Author.Tests.{eqb-true, eqb-false, ltb-true, ltb-false}
 use lib.Bits.{bit_xor, xor_self}
 use lib.Dec.{eqb, ltb}
-use lib.ListN.{length, get_or, take, drop, set, length-set, length-append, length-drop, get_or-append}
+use lib.ListN.{length, get_or, take, drop, length-set, length-append, length-drop, get_or-append}
 use lib.Seq.{take-suc, take_at, length-take-le, get_or-take, get_or-set_same, get_or-set_other, ext_get_or}
 use Rattle.ground.specs.Apart.{apart}
 use Rattle.ground.specs.Bytes.{Bytes}
@@ -22,7 +22,6 @@ use Rattle.ground.proofs.ApartLaws.{apart_comm, apart-set, apart_through}
 use Rattle.ground.proofs.ByteLaws.{bytes-append, bytes_take, bytes_drop}
 use Rattle.ground.proofs.CaseLaws.{by_test}
 use Rattle.ground.proofs.XorLaws.{xor_cancel}
-use Rattle.field.specs.Field.{mul, alpha_to}
 use Rattle.field.specs.Polynomials.{eval_from, value_at}
 use Rattle.field.proofs.FieldLaws.{mul-zero_l}
 use Rattle.field.proofs.PowerLaws.{alpha_to-lt}

@@ -23,7 +23,7 @@ use Rattle.locating.proofs.ReduceLaws.{combined_part}
 use Rattle.codewords.specs.CodeBlocks.{CodeBlock}
 use Rattle.proposals.specs.Near.{Near, nearest_of}
 use Rattle.proposals.proofs.NearestLaws.{near, nearest_is, nearest_near}
-use Rattle.repairing.specs.Inner.{Held, AllZero, Word, Coefficients, Settled, Going, Ended}
+use Rattle.repairing.specs.Inner.{Held, AllZero, Word, Coefficients, Going, Ended}
 use Rattle.repairing.specs.Remains.{Remains}
 use Rattle.repairing.proofs.ErrorLaws.{errors, errors_count, errors_bytes, error_at, errors_values}
 use Rattle.repairing.proofs.GoingLaws.{word_of, going_of}

@@ -5,15 +5,13 @@
 -- Assumes nothing.
 use mathlib.Core.List.{List}
 use mathlib.Core.Path.{◌≡◌, refl, ap, ◌∙◌}
-use Prim.Native.Nat.{ℕ, ◌≤◌}
-use lib.ListN.{length}
+use Prim.Native.Nat.{ℕ}
 use Rattle.answers.specs.declared.Refusal.{Refusal}
 use Rattle.sessions.specs.Meters.{Store, Result, Refuse, Keep}
-use Rattle.sessions.specs.StoreFile.{memory_size, memory_of}
+use Rattle.sessions.specs.StoreFile.{memory_of}
 use Rattle.sessions.specs.StoreCalls.{◌and_then◌, leaves, kept}
 use Rattle.sessions.specs.History.{Call, Add, AddBy, Hear, Issue, Restore, Allow, after}
 use Rattle.sessions.proofs.StepLaws.{on_store}
-use Rattle.sessions.proofs.TestLaws.{cond_refuse}
 
 abbrev pub left : List ℕ → Result → List ℕ
 left s (Refuse why) = s

@@ -1,4 +1,3 @@
-use Prim.Native.Nat.{◌-◌}
 use native.Mathlib.Omega.{arith}
 use Rattle.correction.proofs.TurnLaws.{turning_next, turning_end}
 use Rattle.correction.proofs.division.divide_by.Goals as goal

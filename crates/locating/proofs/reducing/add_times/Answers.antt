@@ -1,5 +1,5 @@
 use native.Mathlib.Omega.{arith}
-use Prim.Native.Nat.{◌-◌, ◌<◌}
+use Prim.Native.Nat.{◌<◌}
 use lib.ListN.{length}
 use Rattle.ground.proofs.InPlaceLaws.{in_place_start, in_place_next, in_place_end}
 use Rattle.locating.proofs.ReduceLaws.{length_added, added_at}

@@ -1,5 +1,4 @@
 use native.Mathlib.Omega.{arith}
-use Prim.Native.Nat.{◌-◌}
 use native.Mathlib.Nat.{pos_of_ne-zero}
 use Rattle.locating.proofs.ReduceLaws.{next_column}
 use Rattle.locating.proofs.reducing.reduce.Goals as goal

@@ -1,4 +1,3 @@
-use Prim.Native.Nat.{◌-◌}
 use native.Mathlib.Omega.{arith}
 use Rattle.mending.proofs.WordLaws.{counting_start, counting_next, counting_end}
 use Rattle.mending.proofs.words.differing.Goals as goal

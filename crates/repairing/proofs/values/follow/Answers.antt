@@ -1,6 +1,5 @@
 use native.Mathlib.Omega.{arith}
 use mathlib.Core.Path.{ap₂, ◌∙◌}
-use Prim.Native.Nat.{◌-◌}
 use lib.Bits.{bit_xor}
 use Rattle.ground.proofs.InPlaceLaws.{in_place_start, in_place_next}
 use Rattle.repairing.proofs.ValueLaws.{first_term, next_term}

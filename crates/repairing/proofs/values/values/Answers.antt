@@ -1,6 +1,6 @@
 use native.Mathlib.Omega.{arith}
 use mathlib.Core.Path.{ap, ◌∙◌}
-use Prim.Native.Nat.{ℕ, ◌-◌}
+use Prim.Native.Nat.{ℕ}
 use Rattle.ground.proofs.InPlaceLaws.{in_place_start, in_place_next}
 use Rattle.field.specs.Polynomials.{value_at}
 use Rattle.repairing.proofs.ValueLaws.{root_power}

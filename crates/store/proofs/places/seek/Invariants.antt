@@ -1,6 +1,5 @@
 -- `places::seek` meets its contract. The loop's invariant: the meter is found from `next` on in its slot, or nowhere.
 -- The measure is `next`: a meter leads to one before it. Assumes nothing.
-use Prim.Native.Nat.{◌-◌}
 use Rattle.store.proofs.IndexLaws.{Walk}
 use Rattle.store.proofs.places.seek.Given as goal
 
