@@ -3,16 +3,14 @@
 
   readable.py [--crate NAME] [--list]
 
-Fails on: a line of more than 120 characters (imports aside); a path of four or more
-steps that stands twice in one answer (Answers.antt, Invariants.antt, Proof.antt); a law of more than 20 lines; more
-than one law in ten of over 8 lines (cases in a row with one right side count as one line). Walks by hand (WALKS) are left out: their text follows
-the program logic step by step. Fails also on a line of a must-fail edit that rt passes over: a text of several lines is
-one replacement for each. With --list it also names the laws of over 8 lines.
+Fails on: a line of more than 120 characters (imports aside); a path of four or more steps that stands twice in one
+answer (Answers.antt, Invariants.antt, Proof.antt); a law of more than 20 lines; more than one law in ten of over 8
+lines (cases in a row with one right side count as one line). Fails also on a line of a must-fail edit that rt passes
+over: a text of several lines is one replacement for each. With --list it also names the laws of over 8 lines.
 """
 import argparse, collections, glob, os, re, sys
 
 WIDEST, STEPS, LONGEST, USUAL = 120, 4, 20, 8
-WALKS = ("crates/chipreader/proofs/new/", "crates/chipreader/proofs/next/", "crates/chipreader/proofs/first/")
 EDIT = ("#", "file: ", "old: ", "new:")
 ANSWERS = ("/Answers.antt", "/Invariants.antt", "/Proof.antt")
 IMPORT = re.compile(r"\s*(ghost )?(pub )?use ")
@@ -25,7 +23,7 @@ def files(crate):
         dirs[:] = sorted(d for d in dirs if d not in ("must-fail", "out"))
         for n in sorted(names):
             path = os.path.join(top, n)
-            if n.endswith((".rt", ".antt")) and not path.startswith(WALKS) and (not crate or path.split("/")[1] == crate):
+            if n.endswith((".rt", ".antt")) and (not crate or path.split("/")[1] == crate):
                 yield path
 
 

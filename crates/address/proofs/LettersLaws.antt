@@ -1,5 +1,6 @@
 -- The maker's letters (EN 13757-4:2019, 12.5.5).
---     letters_of_first, -second, -third, -all    the answer by the first part that is no letter, and where there is none
+--     letters_of_first, -second, -third, -all    the answer by the first part that is no letter, and where there is
+--                                                none
 --     letters_of_low      numbers with the same 15 low bits have the same letters: the top bit is no part of one
 --     Spelled m x y z    x, y, z are letters, and the 15 low bits of m are theirs, five bits each
 --     letters_of_three    M has the letters x, y, z exactly then

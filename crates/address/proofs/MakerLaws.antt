@@ -66,7 +66,8 @@ module _ (m : ℕ) where
   pub reach_turned : (maker_of (bit_xor m 0x8000)).reach ≡ (maker_of m).reach → ⊥
   reach_turned e = omega (arith, turned_none (top_bit m) 1 (sym (top_turned_lem m) ∙ reach_top (bit_xor m 0x8000) m e))
 
-pub maker_of-received : (s : List ℕ) → Bytes s → (k : ℕ) → (maker_of (two_at s k)).reach ≡ Soft ↔ 128 ≤ get_or s (k + 1) 0
+pub maker_of-received : (s : List ℕ) → Bytes s → (k : ℕ)
+    → (maker_of (two_at s k)).reach ≡ Soft ↔ 128 ≤ get_or s (k + 1) 0
 maker_of-received s bytes k =
     let e = maker_of_soft (two_at s k) (omega (arith, bytes k, bytes (k + 1))) in
     (λ soft. omega (arith, bytes k, e.0 soft), λ h. e.1 (omega arith))

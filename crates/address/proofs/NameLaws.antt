@@ -6,7 +6,8 @@
 --     name_bytes_name_at      the bytes of a name that was read are those that stood there
 --     length_name_of, get_d_name_of    M and A of a content are eight bytes, from its byte 1 on
 --     same_bytes_self, same_bytes_equal    the same bytes are those that are equal
---     same_bytes_next, same_bytes_differ, same_bytes_end    at a place: two bytes that agree, two that differ, none left
+--     same_bytes_next, same_bytes_differ, same_bytes_end    at a place: two bytes that agree, two that differ, none
+--                                                           left
 use mathlib.Core.List.{List, [], ◌∷◌, ◌++◌}
 use mathlib.Core.Path.{◌≡◌, refl, ◌∙◌, ap}
 use mathlib.Core.Bool.{true, false, false≢true}

@@ -44,7 +44,8 @@ use Rattle.airdamage.proofs.SeenLaws.{never_t, never_c, never_m, never_b}
 
 -- ---- a frame alone in its chips
 
-module _ (k : Kind) (p c : List ℕ) (at : FrameAt (format_of k) p (length p) c) (whole : frame_of (format_of k) c ≡ p) where
+module _ (k : Kind) (p c : List ℕ) (at : FrameAt (format_of k) p (length p) c)
+    (whole : frame_of (format_of k) c ≡ p) where
   sent_is : sent_of k c ≡ air_of k p
   sent_is = ap (air_of k) whole
 
@@ -125,7 +126,8 @@ other_t =
 judged_a :
     (judge_of Format.A it.sent_a ≡ Frame.Accepted 20 15) × ((judge_of Format.A it.seventeen_a ≡ Frame.Accepted 20 15)
     × (judge_of Format.A other_t ≡ Frame.Accepted 20 15))
-unfolding judge_of by_length by_checks frame_size size_of cut first_wrong block_ok check_of reg_of byte_in bits_in bit_in
+unfolding judge_of by_length by_checks frame_size size_of cut first_wrong block_ok check_of reg_of byte_in bits_in
+    bit_in
 judged_a = (refl, (refl, refl))
 
 not_t : (w : ℕ) → 22 < w → NeverSent TWithA w 0 → ⊥
@@ -153,7 +155,8 @@ judged_b :
     (judge_of Format.B it.sent_b ≡ Frame.Accepted 23 20) × ((judge_of Format.B it.seventeen_b ≡ Frame.Accepted 23 20)
     × ((judge_of Format.B it.sent_long ≡ Frame.Accepted 15 12)
     × (judge_of Format.B (take 13 it.one_bit) ≡ Frame.Accepted 13 10)))
-unfolding judge_of by_length by_checks frame_size size_of cut first_wrong block_ok check_of reg_of byte_in bits_in bit_in
+unfolding judge_of by_length by_checks frame_size size_of cut first_wrong block_ok check_of reg_of byte_in bits_in
+    bit_in
 judged_b = (refl, (refl, (refl, refl)))
 
 not_b_behind : (w : ℕ) → 16 < w → NeverSent CWithB w 8 → ⊥

@@ -46,7 +46,8 @@ unfolding ends_alike word
 ends_told = tt
 
 ends_at : (x y : ℕ) → x < 16 → y < 16 → T (ends_alike x y)
-ends_at x y hx hy = all_below_at (ends_alike x) 16 (all_below_at (λ u. all_below (ends_alike u) 16) 16 ends_told x hx) y hy
+ends_at x y hx hy =
+    all_below_at (ends_alike x) 16 (all_below_at (λ u. all_below (ends_alike u) 16) 16 ends_told x hx) y hy
 
 follows : (a b : Bool) → a ≡ true → T (not a || b) → T b
 follows true b e t = t

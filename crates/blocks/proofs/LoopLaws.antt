@@ -125,7 +125,8 @@ pub record Putting (c : List ℕ) (later : ℕ) (d : List ℕ) (before from : �
   pub same :
       let left = spans later later (length c - done) in
       let all = spans later later (length c - before) in
-      filled out at (framed left (drop done c)) (size_of left) ≡ filled d from (framed all (drop before c)) (size_of all)
+      filled out at (framed left (drop done c)) (size_of left)
+      ≡ filled d from (framed all (drop before c)) (size_of all)
 
 module _ {c d out : List ℕ} {later before from done at : ℕ} (w : Putting c later d before from out done at) where
   pub putting_end :

@@ -112,8 +112,7 @@ module _ (first later n : ℕ) {k : ℕ} (e : k ≡ min (first - 1) n) (m : 1 < 
 
 -- reading on behind the length byte is the same walk from place 1, with a first span that is one byte shorter
 module _ {first later : ℕ} (m : 1 < first) (l : 0 < later) where
-  pub payload_behind :
-      (n : ℕ) (s : List ℕ) → 0 < length s
+  pub payload_behind : (n : ℕ) (s : List ℕ) → 0 < length s
       → drop 1 (payload (spans first later (n + 1)) s) ≡ payload (spans (first - 1) later n) (drop 1 s)
   unfolding payload cut
   payload_behind n [] h = absurd (not-suc-le-zero h)

@@ -28,7 +28,8 @@ band_of_one [] h = absurd (omega arith)
 band_of_one (x ∷ []) h = refl
 band_of_one (x ∷ (y ∷ s)) h = absurd (omega arith)
 
-pub band_of_two : (s : List ℕ) → length s ≡ 2 → band_of s ≡ cond (eqb (get_or s 1 0) 10) (letter_of (get_or s 0 0)) NoSuch
+pub band_of_two : (s : List ℕ) → length s ≡ 2
+    → band_of s ≡ cond (eqb (get_or s 1 0) 10) (letter_of (get_or s 0 0)) NoSuch
 unfolding band_of
 band_of_two [] h = absurd (omega arith)
 band_of_two (x ∷ []) h = absurd (omega arith)

@@ -167,7 +167,8 @@ unfolding packed
 packed_whole n f =
     let size : (8 * n + 7) / 8 ≡ n = omega arith in
     rw size (tabulate_same (λ j. gather (up_to (8 * n) f) (8 * j) 8) (λ j. gather f (8 * j) 8) n
-    (λ j h. gather_same (up_to (8 * n) f) f (8 * j) (8 * j) 8 (λ k lt. up_to_within (8 * n) f (8 * j + k) (omega arith))))
+    (λ j h. gather_same (up_to (8 * n) f) f (8 * j) (8 * j) 8
+    (λ k lt. up_to_within (8 * n) f (8 * j + k) (omega arith))))
 
 pub chip_at_middle : (pre t post : List ℕ) (k : ℕ) → k < 8 * length t
     → chip_at (pre ++ (t ++ post)) (8 * length pre + k) ≡ chip_at t k

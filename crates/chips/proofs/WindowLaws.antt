@@ -108,8 +108,7 @@ word_at_cut s at w h =
 module _ (s : List ℕ) (at w : ℕ) (some : 1 ≤ w) (few : w ≤ 9) {a b : ℕ}
     (first : (a ≡ get_or s (at / 8) 0) × (a < 256)) (last : (b ≡ get_or s ((at + w - 1) / 8) 0) × (b < 256)) where
   -- they are neighbours
-  two_across : 8 < at % 8 + w
-      → (a * 256 + b) / 2 ^ (16 - at % 8 - w) % 2 ^ w ≡ word_at s (8 * (at / 8) + at % 8) w
+  two_across : 8 < at % 8 + w → (a * 256 + b) / 2 ^ (16 - at % 8 - w) % 2 ^ w ≡ word_at s (8 * (at / 8) + at % 8) w
   two_across far =
       let next : (at + w - 1) / 8 ≡ at / 8 + 1 = omega arith in
       let b-is : b ≡ get_or s (at / 8 + 1) 0 = last.0 ∙ ap (λ (q : ℕ). get_or s q 0) next in

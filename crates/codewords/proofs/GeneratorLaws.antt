@@ -48,8 +48,7 @@ product_root : (n k : ℕ) → k < n → value_at (root k) (generator_of n) ≡ 
 unfolding generator_of
 product_root zero k h = absurd (not-suc-le-zero h)
 product_root (suc n) k h =
-    ⊎_elim
-    (λ e. ap (λ (j : ℕ). value_at (root j) (by_root (root n) (generator_of n))) e
+    ⊎_elim (λ e. ap (λ (j : ℕ). value_at (root j) (by_root (root n) (generator_of n))) e
     ∙ value_at_root (root n) (generator_of n) (root-lt n) (bytes_product n))
     (λ l. value_stays_zero (root k) (root n) (generator_of n) (root-lt n) (bytes_product n) (product_root n k l))
     (eq-or-lt_of_le (le_of_suc-le-suc h))

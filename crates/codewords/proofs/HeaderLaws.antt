@@ -23,14 +23,16 @@ announced_short (l ∷ h ∷ s) few = absurd (omega arith)
 
 announced_by : (s : List ℕ) → 2 ≤ length s
     → announced_of s
-    ≡ cond (eqb (id_of (get_or s 0 0 + 256 * get_or s 1 0)) 1) Announced.ReedSolomon (Announced.Refused Refusal.UnknownCode)
+    ≡ cond (eqb (id_of (get_or s 0 0 + 256 * get_or s 1 0)) 1) Announced.ReedSolomon
+    (Announced.Refused Refusal.UnknownCode)
 unfolding announced_of
 announced_by [] few = absurd (omega arith)
 announced_by (l ∷ []) few = absurd (omega arith)
 announced_by (l ∷ h ∷ s) few = refl
 
 module _
-    (s : List ℕ) {h i : ℕ} (two : 2 ≤ length s) (read : h ≡ get_or s 0 0 + 256 * get_or s 1 0) (found : i ≡ id_of h) where
+    (s : List ℕ) {h i : ℕ} (two : 2 ≤ length s) (read : h ≡ get_or s 0 0 + 256 * get_or s 1 0)
+    (found : i ≡ id_of h) where
   announced_as : announced_of s ≡ cond (eqb i 1) Announced.ReedSolomon (Announced.Refused Refusal.UnknownCode)
   announced_as = announced_by s two ∙ rw (found, read)
 

@@ -49,7 +49,6 @@ module _ (s d : List ℕ) (z : ℕ) (there : z ≤ length s) (room : z + 34 ≤ 
   corrected_put {m} {n} {o} {c} em en ec eo =
       let size : length (header_of 1 ++ checks_of (take z s)) ≡ 34 = rw (length-checks_of (take z s)) refl in
       let all : z - 0 ≡ z = omega arith in
-      sets_then (header_of 1) c m z en eo
-      ∙ ap₂ (λ (l v : List ℕ). sets l z (header_of 1 ++ v)) (em ∙ paste_copied)
+      sets_then (header_of 1) c m z en eo ∙ ap₂ (λ (l v : List ℕ). sets l z (header_of 1 ++ v)) (em ∙ paste_copied)
       (ec ∙ ap (λ (k : ℕ). checks_of (take k s)) all)
       ∙ sets_copied (header_of 1 ++ checks_of (take z s)) size

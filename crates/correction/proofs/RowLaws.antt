@@ -60,7 +60,8 @@ checks_halves p q =
 -- ---- what the code sums up
 
 module _ (rows : List ℕ) (ok : RowsOk rows) (p q : ℕ) (hp : p < 256) (hq : q < 256) where
-  row_half : (k h : ℕ) {r : Remainder} → k < 4 → h < 16 → r ≡ row_at rows (16 * k + h) → bytes_of r ≡ checks_of (half k h)
+  row_half : (k h : ℕ) {r : Remainder} → k < 4 → h < 16 → r ≡ row_at rows (16 * k + h)
+      → bytes_of r ≡ checks_of (half k h)
   row_half k h hk hh e = ap bytes_of e ∙ ok.row k h hk hh
 
   pub rows_sum : {a b c d : Remainder} {u v w : List ℕ}

@@ -36,8 +36,7 @@ pub in_two : (m : Remainder) (x y : ℕ) {u v w : List ℕ} → m.a < 1844674407
     → v ≡ checks_of (bit_xor (m.a / 72057594037927936) x ∷ bit_xor (m.a / 281474976710656 % 256) y ∷ [])
     → w ≡ xors u v → w ≡ rem_of generator (bytes_of m) (x ∷ y ∷ [])
 in_two m x y h eu ev e =
-    e
-    ∙ ap₂ xors eu
+    e ∙ ap₂ xors eu
     (ev ∙ ap₂ (λ (a b : ℕ). checks_of (bit_xor a x ∷ bit_xor b y ∷ [])) (top_byte m.a h) (next_byte m.a))
     ∙ sym (two_steps _ _ x y (drop 2 (bytes_of m)) refl)
 
@@ -61,7 +60,8 @@ pub record Turning (w : List ℕ) (m : Remainder) (i : ℕ) : Type 0 where
   pub pairs : (length w - i) % 2 ≡ 0
   pub made : bytes_of m ≡ checks_of (take i w)
 
-two_more : (w : List ℕ) (i : ℕ) → i + 1 < length w → take (i + 2) w ≡ take i w ++ (get_or w i 0 ∷ get_or w (i + 1) 0 ∷ [])
+two_more : (w : List ℕ) (i : ℕ) → i + 1 < length w
+    → take (i + 2) w ≡ take i w ++ (get_or w i 0 ∷ get_or w (i + 1) 0 ∷ [])
 two_more w i h =
     let two : i + 2 ≡ suc (i + 1) = omega arith in
     let one : i + 1 ≡ suc i = omega arith in

@@ -88,7 +88,8 @@ last_six u =
     cons (omega arith) (cons (omega arith) (cons (omega arith) (cons (omega arith)
     (cons (omega arith) (cons (omega arith) refl)))))
 
-key_bytes_up : (u v : ℕ) → v < 18446744073709551616 → key_bytes (up_of u v) ≡ drop 2 (key_bytes u) ++ take 2 (key_bytes v)
+key_bytes_up : (u v : ℕ) → v < 18446744073709551616
+    → key_bytes (up_of u v) ≡ drop 2 (key_bytes u) ++ take 2 (key_bytes v)
 key_bytes_up u v h =
     ap (λ (x : ℕ). key_bytes (x + v / 281474976710656)) (shifted u)
     ∙ eight (u % 281474976710656) (v / 281474976710656) (omega arith)

@@ -73,7 +73,8 @@ bits_out-lt (suc n) r h = bit_out-lt (bits_out n r) (bits_out-lt n r h)
 pub bits_in-bits_out : (n r : ℕ) → r < 65536 → bits_in n (bits_out n r) ≡ r
 unfolding bits_in bits_out
 bits_in-bits_out zero r h = refl
-bits_in-bits_out (suc n) r h = ap (bits_in n) (bit_in-bit_out (bits_out n r) (bits_out-lt n r h)) ∙ bits_in-bits_out n r h
+bits_in-bits_out (suc n) r h =
+    ap (bits_in n) (bit_in-bit_out (bits_out n r) (bits_out-lt n r h)) ∙ bits_in-bits_out n r h
 
 -- ---- two bytes and zeros behind them are their sixteen bits, moved on
 

@@ -92,9 +92,11 @@ reg_of_xor r s [] [] e = refl
 reg_of_xor r s [] (b ∷ bs) e = absurd (omega arith)
 reg_of_xor r s (x ∷ xs) [] e = absurd (omega arith)
 reg_of_xor r s (x ∷ xs) (b ∷ bs) e =
-    ap (λ (v : ℕ). reg_of v (xors xs bs)) (byte_in-xor r s x b) ∙ reg_of_xor (byte_in r x) (byte_in s b) xs bs (omega arith)
+    ap (λ (v : ℕ). reg_of v (xors xs bs)) (byte_in-xor r s x b)
+    ∙ reg_of_xor (byte_in r x) (byte_in s b) xs bs (omega arith)
 
-pub check_of-xor : (xs bs : List ℕ) → length xs ≡ length bs → bit_xor (check_of xs) (check_of bs) ≡ reg_of 0 (xors xs bs)
+pub check_of-xor : (xs bs : List ℕ) → length xs ≡ length bs
+    → bit_xor (check_of xs) (check_of bs) ≡ reg_of 0 (xors xs bs)
 unfolding check_of
 check_of-xor xs bs e =
     xor_swap (reg_of 0 xs) 0xFFFF (reg_of 0 bs) 0xFFFF ∙ xor_zero_r _ ∙ sym (reg_of_xor 0 0 xs bs e)
@@ -113,7 +115,8 @@ byte_in_changed r old new =
     ap₂ byte_in (sym (xor_zero_r r)) (sym (xor_cancel old new)) ∙ byte_in-xor r 0 old (bit_xor old new)
 
 pub reg_of_changed : (r old new : ℕ) (pre post : List ℕ)
-    → reg_of r (pre ++ (new ∷ post)) ≡ bit_xor (reg_of r (pre ++ (old ∷ post))) (share_of (bit_xor old new) (length post))
+    → reg_of r (pre ++ (new ∷ post))
+    ≡ bit_xor (reg_of r (pre ++ (old ∷ post))) (share_of (bit_xor old new) (length post))
 unfolding reg_of share_of
 reg_of_changed r old new [] post =
     ap (λ (v : ℕ). reg_of v post) (byte_in_changed r old new)

@@ -92,12 +92,14 @@ number_lt w b i hw hb =
     rw (steps, pow-add 2 (8 * i) 8) (omega arith)
 
 pub adds_number : (s : List ℕ) (at k w : ℕ) → w < 2 ^ 56 → at + k < length s → get_or s (at + k) 0 < 256
-    → Adds s at k (bits_in 16 (remainder w)) → Adds s at (k + 1) (bits_in 16 (remainder (w * 256 + get_or s (at + k) 0)))
+    → Adds s at k (bits_in 16 (remainder w))
+    → Adds s at (k + 1) (bits_in 16 (remainder (w * 256 + get_or s (at + k) 0)))
 adds_number s at k w small inside byte before =
     let b = get_or s (at + k) 0 in
     let whole : bit_xor (bits_in 8 (bits_in 16 (remainder w))) (bits_in 16 b) ≡ bits_in 16 (remainder (w * 256 + b)) =
     sym (byte_in_parts (bits_in 16 (remainder w)) b byte) ∙ word_byte w b small byte in
-    rw (← whole) (adds_then s at k 1 (bits_in 16 (remainder w)) (bits_in 16 b) before (adds_byte s (at + k) inside byte))
+    rw (← whole) (adds_then s at k 1 (bits_in 16 (remainder w)) (bits_in 16 b) before
+    (adds_byte s (at + k) inside byte))
 
 pub adds_start : (s : List ℕ) (k z : ℕ) → Adds s 0 k z → reg_of z (drop k s) ≡ reg_of 0 s
 adds_start s k z adds =
@@ -123,7 +125,8 @@ pub adds_four : (s : List ℕ) (at k b c p q r t v : ℕ) → b ≡ at + k → c
 adds_four s at k b c p q r t v e f before third fourth is =
     let x = bit_xor (bits_in 32 p) q in
     let moved : bits_in 64 (bits_in 16 x) ≡ bit_xor (bits_in 112 p) (bits_in 80 q) =
-    bits_in-add 64 16 x ∙ bits_in-xor 80 (bits_in 32 p) q ∙ ap (λ (y : ℕ). bit_xor y (bits_in 80 q)) (bits_in-add 80 32 p) in
+    bits_in-add 64 16 x ∙ bits_in-xor 80 (bits_in 32 p) q
+    ∙ ap (λ (y : ℕ). bit_xor y (bits_in 80 q)) (bits_in-add 80 32 p) in
     let behind : bits_in 16 (bit_xor (bits_in 32 r) t) ≡ bit_xor (bits_in 48 r) (bits_in 16 t) = halves_behind r t in
     let both : Adds s (at + k) 8 (bits_in 16 (bit_xor (bits_in 32 r) t)) =
     rw (← e) (adds_two s b r t third (rw (← f) fourth)) in

@@ -89,7 +89,8 @@ module _ (old new : List ℕ) (count : length new ≡ length old) where
   pub length-pattern : length (pattern old new) ≡ 8 * length old
   length-pattern = length-xors (bits_of old) (bits_of new) bits_count ∙ length_bits_of old
 
-  pub pattern_at : (p : ℕ) → get_or (pattern old new) p 0 ≡ bit_xor (get_or (bits_of old) p 0) (get_or (bits_of new) p 0)
+  pub pattern_at : (p : ℕ)
+      → get_or (pattern old new) p 0 ≡ bit_xor (get_or (bits_of old) p 0) (get_or (bits_of new) p 0)
   pattern_at p = get_d_xors (bits_of old) (bits_of new) p bits_count
 
   pub pattern_digits : Digits (pattern old new)

@@ -76,7 +76,8 @@ module _ (f : Format) (t : List ℕ) (nowhere : (y : ℕ) (e : List ℕ) → Fra
 
   -- `old` is a frame of z bytes, and so many came
   pub refuses :
-      (old : List ℕ) {z n : ℕ} → size_for f (get_or old 0 0) ≡ Frame.Accepted z n → 0 < z → z ≤ length t → Refuses f old t
+      (old : List ℕ) {z n : ℕ} → size_for f (get_or old 0 0) ≡ Frame.Accepted z n → 0 < z → z ≤ length t
+      → Refuses f old t
   refuses old {z} {n} sized some there =
       record {
         number = refused (judge_of f t) refl (judge_low f t);

@@ -119,7 +119,8 @@ few_of :
 few_of b few stays = ((b, (b.damaged, few)), stays)
 
 seventeen_a : Unseen A (Behind (Burst 17)) it.sent_a it.seventeen_a
-unfolding judge_of by_length by_checks frame_size size_of cut first_wrong block_ok check_of reg_of byte_in bits_in bit_in content_in
+unfolding judge_of by_length by_checks frame_size size_of cut first_wrong block_ok check_of reg_of byte_in bits_in
+    bit_in content_in
     payload bits_of apart passes
 seventeen_a =
     unseen A (Behind (Burst 17)) it.sent_a it.seventeen_a tt tt {n = 15} {m = 15} refl refl
@@ -127,7 +128,8 @@ seventeen_a =
     (other_byte 12 (λ e. omega arith))
 
 seventeen_b : Unseen B (Behind (Burst 17)) it.sent_b it.seventeen_b
-unfolding judge_of by_length by_checks frame_size size_of cut first_wrong block_ok check_of reg_of byte_in bits_in bit_in content_in
+unfolding judge_of by_length by_checks frame_size size_of cut first_wrong block_ok check_of reg_of byte_in bits_in
+    bit_in content_in
     payload bits_of apart passes
 seventeen_b =
     unseen B (Behind (Burst 17)) it.sent_b it.seventeen_b tt tt {n = 20} {m = 20} refl refl
@@ -135,7 +137,8 @@ seventeen_b =
     (other_byte 15 (λ e. omega arith))
 
 six_a : Unseen A (Behind (Of 23 6)) it.sent_a it.six_a
-unfolding judge_of by_length by_checks frame_size size_of cut first_wrong block_ok check_of reg_of byte_in bits_in bit_in content_in
+unfolding judge_of by_length by_checks frame_size size_of cut first_wrong block_ok check_of reg_of byte_in bits_in
+    bit_in content_in
     payload bits_of apart passes
 six_a =
     unseen A (Behind (Of 23 6)) it.sent_a it.six_a tt tt {n = 15} {m = 15} refl refl
@@ -143,7 +146,8 @@ six_a =
     (other_byte 12 (λ e. omega arith))
 
 six_b : Unseen B (Behind (Of 23 6)) it.sent_b it.six_b
-unfolding judge_of by_length by_checks frame_size size_of cut first_wrong block_ok check_of reg_of byte_in bits_in bit_in content_in
+unfolding judge_of by_length by_checks frame_size size_of cut first_wrong block_ok check_of reg_of byte_in bits_in
+    bit_in content_in
     payload bits_of apart passes
 six_b =
     unseen B (Behind (Of 23 6)) it.sent_b it.six_b tt tt {n = 20} {m = 20} refl refl
@@ -151,7 +155,8 @@ six_b =
     (other_byte 15 (λ e. omega arith))
 
 two_bytes_a : Unseen A (Behind InTwo) it.sent_a it.two_bytes_a
-unfolding judge_of by_length by_checks frame_size size_of cut first_wrong block_ok check_of reg_of byte_in bits_in bit_in content_in
+unfolding judge_of by_length by_checks frame_size size_of cut first_wrong block_ok check_of reg_of byte_in bits_in
+    bit_in content_in
     payload bits_of apart passes
 two_bytes_a =
     unseen A (Behind InTwo) it.sent_a it.two_bytes_a tt tt {n = 15} {m = 15} refl refl
@@ -159,7 +164,8 @@ two_bytes_a =
     (other_byte 12 (λ e. omega arith))
 
 two_bytes_b : Unseen B (Behind InTwo) it.sent_b it.two_bytes_b
-unfolding judge_of by_length by_checks frame_size size_of cut first_wrong block_ok check_of reg_of byte_in bits_in bit_in content_in
+unfolding judge_of by_length by_checks frame_size size_of cut first_wrong block_ok check_of reg_of byte_in bits_in
+    bit_in content_in
     payload bits_of apart passes
 two_bytes_b =
     unseen B (Behind InTwo) it.sent_b it.two_bytes_b tt tt {n = 20} {m = 20} refl refl
@@ -167,7 +173,8 @@ two_bytes_b =
     (other_byte 15 (λ e. omega arith))
 
 two_bits : Unseen B (Behind (Of 152 2)) it.sent_b it.two_bits
-unfolding judge_of by_length by_checks frame_size size_of cut first_wrong block_ok check_of reg_of byte_in bits_in bit_in content_in
+unfolding judge_of by_length by_checks frame_size size_of cut first_wrong block_ok check_of reg_of byte_in bits_in
+    bit_in content_in
     payload bits_of apart passes
 two_bits =
     unseen B (Behind (Of 152 2)) it.sent_b it.two_bits tt tt {n = 20} {m = 20} refl refl
@@ -175,7 +182,8 @@ two_bits =
     (other_byte 0 (λ e. omega arith))
 
 one_bit : Unseen B (Burst 1) it.sent_long it.one_bit
-unfolding judge_of by_length by_checks frame_size size_of cut first_wrong block_ok check_of reg_of byte_in bits_in bit_in content_in
+unfolding judge_of by_length by_checks frame_size size_of cut first_wrong block_ok check_of reg_of byte_in bits_in
+    bit_in content_in
     payload bits_of apart passes
 one_bit =
     unseen B (Burst 1) it.sent_long it.one_bit tt tt {n = 12} {m = 10} refl refl
@@ -183,7 +191,8 @@ one_bit =
     (other_length (λ e. omega arith))
 
 odd_bits : Unseen A Odd it.sent_odd it.seven_bits
-unfolding judge_of by_length by_checks frame_size size_of cut first_wrong block_ok check_of reg_of byte_in bits_in bit_in content_in
+unfolding judge_of by_length by_checks frame_size size_of cut first_wrong block_ok check_of reg_of byte_in bits_in
+    bit_in content_in
     payload bits_of apart passes
 odd_bits =
     unseen A Odd it.sent_odd it.seven_bits tt tt {n = 12} {m = 10} refl refl

@@ -61,7 +61,8 @@ lines_of_channels Band.NoSuch = refl
 listed_channel : (xs : List Line) (k : ℕ) → all_channels xs ≡ true → k < length xs → get_or xs k Line.End ≡ Line.End → ⊥
 unfolding all_channels is_channel
 listed_channel [] k all h e = not-suc-le-zero h
-listed_channel (x ∷ xs) zero all h e = false≢true (sym (ap is_channel e) ∙ and_left (is_channel x) (all_channels xs) all)
+listed_channel (x ∷ xs) zero all h e =
+    false≢true (sym (ap is_channel e) ∙ and_left (is_channel x) (all_channels xs) all)
 listed_channel (x ∷ xs) (suc k) all h e =
     listed_channel xs k (and_right (is_channel x) (all_channels xs) all) (le_of_suc-le-suc h) e
 

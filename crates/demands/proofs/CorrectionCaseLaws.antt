@@ -64,7 +64,8 @@ module _ (h : ℕ) where
 
   one-bits : id_of h ≡ 1 → (i : ℕ) → i < 5 → bit_of i h ≡ bit_at 1 i
   one-bits one =
-      let bits = bits_of_one _ _ _ _ _ (bit_of_lt 0 h) (bit_of_lt 1 h) (bit_of_lt 2 h) (bit_of_lt 3 h) (bit_of_lt 4 h) one in
+      let bits = bits_of_one _ _ _ _ _ (bit_of_lt 0 h) (bit_of_lt 1 h) (bit_of_lt 2 h) (bit_of_lt 3 h) (bit_of_lt 4 h)
+      one in
       let rest = bits.1.1 in
       below_five (λ i. bit_of i h ≡ bit_at 1 i) bits.0 bits.1.0 rest.0 rest.1.0 rest.1.1
 

@@ -227,7 +227,8 @@ set-zero zero k = refl
 set-zero (suc w) zero = refl
 set-zero (suc w) (suc k) = ap (λ (x : List ℕ). 0 ∷ x) (set-zero w k)
 
-value_0 : (r : Refusal) → value_of r ≡ 0 → set (replicate 7 0) (refusal_place (number_of r)) (value_of r) ≡ replicate 7 0
+value_0 : (r : Refusal) → value_of r ≡ 0
+    → set (replicate 7 0) (refusal_place (number_of r)) (value_of r) ≡ replicate 7 0
 value_0 r e = rw e (set-zero 7 (refusal_place (number_of r)))
 
 pub accepted_rows : AcceptedRows

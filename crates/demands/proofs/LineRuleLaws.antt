@@ -92,9 +92,9 @@ module _ {B : Type 0} {refused : Refusal → B} (told : Word → B)
       subst (Follows refused code_steps) (sym (passes (Refusal.BadWord 0)))
       (taken_bare (Refusal.BadWord 0) (no_word κ y Value.NoWord e refl) refl refl)
 
-  word_follows :
-      (u : Bool) → ltb (chip_count s) (at + κ.chips) ≡ u
-      → Follows refused (word_steps κ s at read) (told (cond u (Word.Refused Refusal.Short) (word_for (word_value κ y))))
+  word_follows : (u : Bool) → ltb (chip_count s) (at + κ.chips) ≡ u
+      → Follows refused (word_steps κ s at read)
+      (told (cond u (Word.Refused Refusal.Short) (word_for (word_value κ y))))
   word_follows true e =
       subst (Follows refused (word_steps κ s at read)) (sym (passes Refusal.Short))
       (taken_bare Refusal.Short (ltb-true (chip_count s) (at + κ.chips) e) refl refl)

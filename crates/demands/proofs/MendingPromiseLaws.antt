@@ -151,7 +151,8 @@ module _ (f : Format) (s d : List ℕ) (y : ℕ) (bytes : Bytes s)
       record { low = at.low; high = at.high; size = at.size; bytes = front ∙ at.bytes }
 
   module _ (k : ℕ) (low : k ≤ 16) (r : List ℕ) (there : z + 34 ≤ length r) (b : Bytes (received z r))
-      (same : get_or r 0 0 ≡ get_or s 0 0) (few : apart (received z r) c ≤ k) (e : List ℕ) (room : z + 32 ≤ length e) where
+      (same : get_or r 0 0 ≡ get_or s 0 0) (few : apart (received z r) c ≤ k) (e : List ℕ)
+      (room : z + 32 ≤ length e) where
     abbrev t : List ℕ
     t = drop (z + 32) e
 
@@ -209,8 +210,7 @@ module _ (f : Format) (s d : List ℕ) (y : ℕ) (bytes : Bytes s)
         ⊎_elim (λ e. rw e (omega (arith, apart_self c)))
         (λ (j, e). rw e (omega (arith, apart_comm (set c j b) c, apart-set c j b))) changed
 
-    pub one_byte_mended :
-        (e : List ℕ) → z + 32 ≤ length e
+    pub one_byte_mended : (e : List ℕ) → z + 32 ≤ length e
         → let differing = apart (received z (set m i b)) (received z m) in
         (differing ≤ 1) × MendedAgain 1 f s m (set m i b) e z differing
     one_byte_mended e room = (

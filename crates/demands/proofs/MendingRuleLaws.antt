@@ -132,8 +132,7 @@ nearest_follow k w few most bytes go =
     let is = nearest_is k w bytes in
     Follows.found (nearest_of k w) is (λ m also. nearest_only k w few most m (nearest_of k w) also is) go
 
-put_follows :
-    (k z n : ℕ) → k ≤ 16 → z ≤ 223 → (s : List ℕ) → Bytes s → (d : List ℕ)
+put_follows : (k z n : ℕ) → k ≤ 16 → z ≤ 223 → (s : List ℕ) → Bytes s → (d : List ℕ)
     → Follows (λ r. leaving (Written.Refused r) d) (propose_steps k z s d) (proposing_by k s d (Frame.Accepted z n))
 unfolding proposing_by
 put_follows k z n few most s bytes d =

@@ -86,8 +86,7 @@ receiver_place_lem s h n e a =
     ap (λ (g : Header). g.receiver.m) (sym w.header) ∙ rw kind
 
 module _
-    (filter : List (List ℕ) → ℕ → List ℕ → Verdict)
-    (promise :
+    (filter : List (List ℕ) → ℕ → List ℕ → Verdict) (promise :
     (es : List (List ℕ)) (n : ℕ) (s : List ℕ) → length es ≡ 16
     → Judged Verdict.Refused (filter_rule es n s) (filter es n s))
     (es : List (List ℕ)) (n : ℕ) (sixteen : length es ≡ 16) where

@@ -62,5 +62,6 @@ want =
     ∷ []
 
 pub starred : got ≡ want
-unfolding got want bit_in bits_in byte_in reg_of check_of share_of encoding packed tabulate gather frame_size cut size_of
+unfolding got want bit_in bits_in byte_in reg_of check_of share_of encoding packed tabulate gather frame_size cut
+    size_of
 starred = refl

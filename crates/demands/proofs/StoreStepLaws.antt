@@ -110,8 +110,7 @@ module _ {B : Type 0} {refused : Refusal → B} (told : Result → B)
 
 -- `told` is what is answered where the meter is held, and where it is not
 module _ {B : Type 0} {refused : Refusal → B} (told : Bool → B) (passes : told false ≡ refused Refusal.NotHeld) where
-  pub held_follows :
-      (a : ℕ) {st : Store} (rest : Meter → Rule B) → Valid st
+  pub held_follows : (a : ℕ) {st : Store} (rest : Meter → Rule B) → Valid st
       → (HeldAs a st (meter_of a st.meters) → Follows refused (rest (meter_of a st.meters)) (told true))
       → Follows refused (held_steps a st rest) (told (holds a st.meters))
   held_follows a {st} rest v go =

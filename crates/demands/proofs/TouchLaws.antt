@@ -52,14 +52,14 @@ pub place_in_span : (ks : List ℕ) (j : ℕ) → j < total ks → InSpan ks (pl
 unfolding place_in check_in total
 place_in_span [] j h = absurd (not-suc-le-zero h)
 place_in_span (k ∷ ks) j h = by (ltb j k) refl (λ l. place_in_span ks (j - k) (omega arith)) where
-  by :
-      (t : Bool) → ltb j k ≡ t → (k ≤ j → InSpan ks (place_in ks (j - k)) (check_in ks (j - k)))
+  by : (t : Bool) → ltb j k ≡ t → (k ≤ j → InSpan ks (place_in ks (j - k)) (check_in ks (j - k)))
       → InSpan (k ∷ ks) (cond t j (k + 2 + place_in ks (j - k))) (cond t k (k + 2 + check_in ks (j - k)))
   by true e rest = span_here k ks j (ltb-true j k e)
   by false e rest = span_later k ks (rest (ltb-false j k e))
 
 pub place_in_held :
-    (ks s : List ℕ) (j : ℕ) → size_of ks ≤ length s → j < total ks → get_or s (place_in ks j) 0 ≡ get_or (payload ks s) j 0
+    (ks s : List ℕ) (j : ℕ) → size_of ks ≤ length s → j < total ks
+    → get_or s (place_in ks j) 0 ≡ get_or (payload ks s) j 0
 unfolding place_in payload total size_of
 place_in_held [] s j fits h = absurd (not-suc-le-zero h)
 place_in_held (k ∷ ks) s j fits h =
@@ -111,7 +111,8 @@ module _ (f : Format) (s : List ℕ) (z n : ℕ) (e : judge_of f s ≡ Frame.Acc
   place_held x size =
       let ks = spans_of f n in
       let held = (form_of f).length_byte n ∷ x in
-      let whole : frame_of f x ≡ framed ks held ++ [] = frame_of_length f x n size ∙ sym (append-nil (framed ks held)) in
+      let whole : frame_of f x
+      ≡ framed ks held ++ [] = frame_of_length f x n size ∙ sym (append-nil (framed ks held)) in
       let fits = ap length (frame_of_length f x n size) ∙ length_framed ks held (omega (arith, total-spans_of f n)) in
       place_in_held ks (frame_of f x) (k + 1) (omega (arith, fits, ap length (frame_of_length f x n size))) inside
       ∙ (ap (λ (y : List ℕ). get_or (payload ks y) (k + 1) 0) whole

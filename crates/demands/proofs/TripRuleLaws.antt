@@ -119,8 +119,7 @@ module _ (code : Code) where
             ∙ encoding-decoding (lawful code) s start n ok.words i h),
       )
 
-  pub decode_encodes :
-      (s : List ℕ) (start n : ℕ) (d out : List ℕ) → (decoded κ s start n d).answer ≡ Decoded.Accepted
+  pub decode_encodes : (s : List ℕ) (start n : ℕ) (d out : List ℕ) → (decoded κ s start n d).answer ≡ Decoded.Accepted
       → encoded_size κ n ≤ length out → EncodesBack s start n out (take n (decoded κ s start n d).memory)
   decode_encodes s start n d out e room =
       let ok = decoded_accepts κ s start n d e in

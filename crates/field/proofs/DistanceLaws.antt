@@ -45,7 +45,8 @@ never_alone n x w h none z =
     omega arith
 
 -- damped by the locator of its first byte, a word loses that byte, and one of the powers in a row at which it is 0
-without_first : (n m x : ℕ) (w : List ℕ) → Bytes (x ∷ w) → ((k : ℕ) → k < suc n → value_at (step_to (m + k)) (x ∷ w) ≡ 0)
+without_first : (n m x : ℕ) (w : List ℕ) → Bytes (x ∷ w)
+    → ((k : ℕ) → k < suc n → value_at (step_to (m + k)) (x ∷ w) ≡ 0)
     → (k : ℕ) → k < n → value_at (step_to (m + k)) (damp (step_to (length w)) w) ≡ 0
 unfolding damp
 without_first n m x w b z k h =

@@ -31,7 +31,8 @@ use Rattle.frame.proofs.FrameLaws.{total-spans_of, length_frame_of, frame_of_len
 use Rattle.frame.proofs.JudgeLaws.{Sized, size_for_accepted, judge_of_whole, cond_refused_then}
 
 -- a frame with any bytes t behind it is accepted
-module _ (f : Format) (c t : List ℕ) (low : (form_of f).shortest ≤ length c) (high : length c ≤ (form_of f).longest) where
+module _ (f : Format) (c t : List ℕ) (low : (form_of f).shortest ≤ length c)
+    (high : length c ≤ (form_of f).longest) where
   size_for_frame_of : size_for f (get_or (frame_of f c ++ t) 0 0) ≡ Frame.Accepted (frame_size f (length c)) (length c)
   size_for_frame_of =
       rw (
@@ -55,7 +56,8 @@ module _ (f : Format) (c t : List ℕ) (low : (form_of f).shortest ≤ length c)
   judge_of_frame_of : judge_of f (frame_of f c ++ t) ≡ Frame.Accepted (frame_size f (length c)) (length c)
   unfolding by_checks
   judge_of_frame_of =
-      judge_of_whole f (frame_of f c ++ t) frame_of_append_some size_for_frame_of (omega (arith, length_frame_of-append))
+      judge_of_whole f (frame_of f c ++ t) frame_of_append_some size_for_frame_of
+      (omega (arith, length_frame_of-append))
       ∙ ap (by_checks (frame_size f (length c)) (length c)) first_wrong_frame_of
 
 -- a buffer that begins with a frame is that frame and what is behind it

@@ -45,7 +45,8 @@ module _ {f : Format} {s : List ℕ} {z n : ℕ} (w : WholeFrame f s z n) (k b :
       mended_framed 1 (spans_of f n) s (k + 1) b (whole_room w) w.right (omega (arith, total-spans_of f n))
       ∙ rw (set-payload, w.size, frame_of_length f (set (content_in f n s) k b) n length-set-content_in)
 
-  mended_touched : Touches s (mended s (place_of f n k) (check_place_of f n k) b) (place_of f n k) (check_place_of f n k) b
+  mended_touched : Touches s (mended s (place_of f n k) (check_place_of f n k) b) (place_of f n k)
+      (check_place_of f n k) b
   mended_touched =
       let p = placed-lt (spans_of f n) (k + 1) (omega (arith, total-spans_of f n)) in
       mended_touches s (place_of f n k) (check_place_of f n k) b p.before (omega (arith, p.inside, whole_room w))

@@ -53,7 +53,8 @@ module _ (f : Format) where
   pub length-content_in : (n : ℕ) (s : List ℕ) → frame_size f n ≤ length s → length (content_in f n s) ≡ n
   unfolding content_in frame_size
   length-content_in n s fits =
-      rw (length-drop 1 (payload (spans_of f n) s), length-payload (spans_of f n) s fits, total-spans_of n) (omega arith)
+      rw (length-drop 1 (payload (spans_of f n) s), length-payload (spans_of f n) s fits, total-spans_of n)
+      (omega arith)
 
   pub frame_of_bytes :
       (c : List ℕ) → (form_of f).shortest ≤ length c → length c ≤ (form_of f).longest → Bytes c → Bytes (frame_of f c)

@@ -26,7 +26,8 @@ use Rattle.frame.proofs.AcceptLaws.{judge_of_frame, content_in_frame, judge_of-a
 
 module _ (f : Format) (s d : List ℕ) where
   pub reading_of_refused :
-      {r : Refusal} → judge_of f s ≡ Frame.Refused r → reading_of f s d ≡ record { answer = Frame.Refused r; memory = d }
+      {r : Refusal} → judge_of f s ≡ Frame.Refused r
+      → reading_of f s d ≡ record { answer = Frame.Refused r; memory = d }
   unfolding reading_of taken_out
   reading_of_refused e = rw e
 

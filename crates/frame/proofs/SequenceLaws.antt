@@ -31,7 +31,8 @@ pub changes_frame :
     → FrameAt f (changing f es s) z (edited es c)
 unfolding changing edited
 changes_frame [] at = at
-changes_frame {f = f} {s = s} {z = z} {c = c} (e ∷ es) at = changes_frame {s = (changing_of f s e.place e.byte).memory} es (change_frame at e.place e.byte)
+changes_frame {f = f} {s = s} {z = z} {c = c} (e ∷ es) at = changes_frame {s = (changing_of f s e.place e.byte).memory}
+    es (change_frame at e.place e.byte)
 
 pub changes_behind :
     {f : Format} {s : List ℕ} {z : ℕ} {c : List ℕ} (es : List Edit) → FrameAt f s z c
@@ -39,7 +40,8 @@ pub changes_behind :
 unfolding changing
 changes_behind [] at = refl
 changes_behind {f = f} {s = s} {z = z} {c = c} (e ∷ es) at =
-    changes_behind {s = (changing_of f s e.place e.byte).memory} es (change_frame at e.place e.byte) ∙ change_behind at e.place e.byte
+    changes_behind {s = (changing_of f s e.place e.byte).memory} es (change_frame at e.place e.byte)
+    ∙ change_behind at e.place e.byte
 
 pub changes_write :
     (f : Format) (es : List Edit) (s : List ℕ) (z : ℕ) (c : List ℕ) → FrameAt f s z c

@@ -91,7 +91,8 @@ bytes-xors (x ∷ u) [] b c = bytes-nil
 bytes-xors (x ∷ u) (y ∷ v) b c =
     bytes-cons (bit_xor x y) (xors u v) (xor_lt 8 x y (b 0) (c 0)) (bytes-xors u v (λ j. b (suc j)) (λ j. c (suc j)))
 
-pub get_d_xors : (u v : List ℕ) (j : ℕ) → length u ≡ length v → get_or (xors u v) j 0 ≡ bit_xor (get_or u j 0) (get_or v j 0)
+pub get_d_xors : (u v : List ℕ) (j : ℕ) → length u ≡ length v
+    → get_or (xors u v) j 0 ≡ bit_xor (get_or u j 0) (get_or v j 0)
 unfolding xors
 get_d_xors [] [] j e = refl
 get_d_xors [] (y ∷ v) j e = absurd (omega arith)

@@ -56,5 +56,6 @@ passed false p = absurd p
 pub all_bytes : (w : List ℕ) → T (all_below (λ j. ltb (get_or w j 0) 256) (length w)) → Bytes w
 all_bytes w t j =
     by_test (ltb j (length w))
-    (λ e. ltb→lt (get_or w j 0) 256 (all_below_at (λ i. ltb (get_or w i 0) 256) (length w) t j (ltb-true j (length w) e)))
+    (λ e. ltb→lt (get_or w j 0) 256
+    (all_below_at (λ i. ltb (get_or w i 0) 256) (length w) t j (ltb-true j (length w) e)))
     (λ e. rw (get_or-eq_default w 0 (ltb-false j (length w) e)) (omega arith))

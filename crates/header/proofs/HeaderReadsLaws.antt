@@ -3,7 +3,8 @@
 --     header_kind_of_ci_of, header_kind_of_is    a CI byte stands for a kind exactly when it is that kind's
 --     WholeHeader s h n, CutHeader s    the body s starts with a whole header, and it ends before its header does
 --     HeaderGrounds s r            the grounds on which s gets the answer r
---     header_reading_of_unknown, header_reading_of_short    the two refusals, each exactly in its case and in their order
+--     header_reading_of_unknown, header_reading_of_short    the two refusals, each exactly in its case and in their
+--                                                           order
 --     header_reading_of_whole        what is accepted is a whole header
 use mathlib.Core.List.{List}
 use mathlib.Core.Path.{◌≡◌, refl, ◌∙◌, ap, subst}
@@ -26,7 +27,8 @@ use Rattle.header.specs.declared.reading.HeaderReading.TheVariants.{Accepted, Re
 
 module _ (s : List ℕ) where
   pub header_reading_of_named :
-      (length s ≡ 0 → ⊥) → {c : CiKind} → header_kind_of (get_or s 0 0) ≡ c → header_reading_of s ≡ header_reading_as c s
+      (length s ≡ 0 → ⊥) → {c : CiKind} → header_kind_of (get_or s 0 0) ≡ c
+      → header_reading_of s ≡ header_reading_as c s
   header_reading_of_named there e = rw (ne_eqb (length s) 0 there) (ap (λ (c : CiKind). header_reading_as c s) e)
 
   module _ (k : HeaderKind) where

@@ -24,7 +24,8 @@ use Rattle.header.specs.declared.access.Access.TheVariants.{NoAccess}
 pub access_of_worked : map access_of (0x20 ∷ 0x7B ∷ []) ≡ NoAccess ∷ NoAccess ∷ []
 access_of_worked = refl
 
-pub header_length_worked : map header_length (Plain ∷ Secured ∷ Addressed ∷ AddressedSecured ∷ []) ≡ 3 ∷ 9 ∷ 11 ∷ 17 ∷ []
+pub header_length_worked : map header_length (Plain ∷ Secured ∷ Addressed ∷ AddressedSecured ∷ [])
+    ≡ 3 ∷ 9 ∷ 11 ∷ 17 ∷ []
 header_length_worked = refl
 
 -- Annex C.3: CI 8Ch, CC 20h, ACC 27h, and what follows them

@@ -58,7 +58,8 @@ receptions_worked = refl
 pub rows_worked :
     told_frame (Frame.Accepted 20 15) ∷ told_frame (Frame.Refused (Refusal.WrongCheck 2))
     ∷ told_sync (Sync.Found 4 5) ∷ told_sync (Sync.Refused (Refusal.NoSync 25))
-    ∷ told_maker (maker_of 0x0CAE) ∷ told_maker (maker_of 0x8CAE) ∷ told_maker (maker_of 0) ∷ told_maker (maker_of 0xFFFF)
+    ∷ told_maker (maker_of 0x0CAE) ∷ told_maker (maker_of 0x8CAE) ∷ told_maker (maker_of 0)
+    ∷ told_maker (maker_of 0xFFFF)
     ∷ told_verdict Verdict.Wanted ∷ told_verdict Verdict.Unwanted
     ∷ told_line (Line.Channel 6 0 169481250) ∷ told_line Line.End
     ∷ []

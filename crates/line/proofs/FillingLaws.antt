@@ -90,7 +90,8 @@ module _ {κ : LineCode} {s : List ℕ} {start n m unit i : ℕ} {room was : Lis
   good_run_byte : good_run (value_at κ s start) (i * m + m) ≡ i * m + good_run (value_at κ s (start + i * unit)) m
   good_run_byte =
       let same : good_run (value_at κ s (start + i * unit)) m ≡ good_run (λ k. value_at κ s start (i * m + k)) m
-      = good_run_same (value_at κ s (start + i * unit)) (λ k. value_at κ s start (i * m + k)) m (λ k h. value_at_byte k) in
+      = good_run_same (value_at κ s (start + i * unit)) (λ k. value_at κ s start (i * m + k)) m
+      (λ k h. value_at_byte k) in
       good_run_shift (value_at κ s start) (i * m) m inv.run ∙ ap (λ (g : ℕ). i * m + g) (sym same)
 
   decoded_chip_byte : (k : ℕ) → decoded_chip κ s (start + i * unit) k ≡ decoded_chip κ s start (8 * i + k)

@@ -5,7 +5,8 @@
 --     decode_encode         and the bytes decoded there are b
 --     encode_decode         where every word is a code word, the chips are those of the bytes decoded there
 --     Encodes κ s start n   some n bytes whose code words stand there
---     good_run_accepts       all words of n bytes are code words exactly when the chips are the encoding of some n bytes
+--     good_run_accepts       all words of n bytes are code words exactly when the chips are the encoding of some n
+--                            bytes
 --     decoded-encoded, encoded-decoded    the same of the answers: decoding accepts what was encoded, and nothing else
 --     encoding_holds        the encoding itself holds b at its start, wherever it stands among other bytes
 --     chip_at-encoding       chip k of the encoding; 0 behind the last
@@ -68,7 +69,8 @@ module _ {κ : LineCode} (law : Lawful κ) (s : List ℕ) (start : ℕ) where
         ∙ law.back (word_at b (i * κ.bits) κ.bits) (gather-lt (chip_at b) (chip_at-lt b) (i * κ.bits) κ.bits)
 
     pub good_run_encode : good_run (value_at κ s start) (words_in κ (length b)) ≡ words_in κ (length b)
-    good_run_encode = good_run_whole (value_at κ s start) (words_in κ (length b)) (λ i h. ap is_word (value_at_holds i h))
+    good_run_encode = good_run_whole (value_at κ s start) (words_in κ (length b))
+        (λ i h. ap is_word (value_at_holds i h))
 
     decoded_chip_holds : (k : ℕ) → k < 8 * length b → decoded_chip κ s start k ≡ chip_at b k
     decoded_chip_holds k h =
@@ -79,7 +81,8 @@ module _ {κ : LineCode} (law : Lawful κ) (s : List ℕ) (start : ℕ) where
         rw (value_at_holds i in-word, ← here)
         (spread_gather (chip_at b) (chip_at-lt b) 0 κ.bits k law.bits_pos ∙ rw (zero-add k))
 
-    gather_holds : (j : ℕ) → j < length b → get_or b j 0 < 256 → gather (decoded_chip κ s start) (8 * j) 8 ≡ get_or b j 0
+    gather_holds : (j : ℕ) → j < length b → get_or b j 0 < 256
+        → gather (decoded_chip κ s start) (8 * j) 8 ≡ get_or b j 0
     gather_holds j h byte =
         gather_same (decoded_chip κ s start) (chip_at b) (8 * j) (8 * j) 8
         (λ k l. decoded_chip_holds (8 * j + k) (omega arith))
@@ -104,7 +107,8 @@ module _ (κ : LineCode) (s : List ℕ) (start n : ℕ) where
   decoding-lt j = packed_lt (8 * n) (decoded_chip κ s start) (λ k. omega arith) j
 
 -- the code word of what a word stands for is that word
-word_of_number_in : (κ : LineCode) (y : ℕ) (v : Value) → word_value κ y ≡ v → is_word v ≡ true → κ.word_of (number_in v) ≡ y
+word_of_number_in : (κ : LineCode) (y : ℕ) (v : Value) → word_value κ y ≡ v → is_word v ≡ true
+    → κ.word_of (number_in v) ≡ y
 word_of_number_in κ y (Is x) e t = (word_value_is κ y x e).1
 word_of_number_in κ y NoWord e t = absurd (zero_not_one (cc))
 
@@ -192,4 +196,5 @@ module _ {κ : LineCode} (law : Lawful κ) where
       let b : List ℕ = decoding κ s start n in
       let inside : k < chips_in κ (length b) = rw (length-decoding κ s start n) h in
       chip_at-encoding κ b k
-      ∙ (up_to_within (chips_in κ (length b)) (encoded_chip κ b) k inside ∙ sym (encode_decode law s start n run k inside))
+      ∙ (up_to_within (chips_in κ (length b)) (encoded_chip κ b) k inside
+      ∙ sym (encode_decode law s start n run k inside))

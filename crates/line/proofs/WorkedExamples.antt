@@ -46,7 +46,8 @@ three_of_six_15 b e =
       ),
     )
 
-pub never_words : (map (word_value (code_of ThreeOfSix)) (7 ∷ 21 ∷ 42 ∷ 56 ∷ []) ≡ NoWord ∷ NoWord ∷ NoWord ∷ NoWord ∷ [])
+pub never_words : (map (word_value (code_of ThreeOfSix)) (7 ∷ 21 ∷ 42 ∷ 56 ∷ [])
+    ≡ NoWord ∷ NoWord ∷ NoWord ∷ NoWord ∷ [])
     × (map (word_value (code_of Manchester)) (0b00 ∷ 0b11 ∷ []) ≡ NoWord ∷ NoWord ∷ [])
 unfolding number_for
 never_words = (refl, refl)

@@ -34,7 +34,8 @@ unfolding partials
 bytes-partials r a [] h b = bytes-nil
 bytes-partials r a (x ∷ w) h b =
     let next = xor_lt 8 (mul a r) x (mul-lt a r h) (b 0) in
-    bytes-cons _ (partials r (bit_xor (mul a r) x) w) next (bytes-partials r (bit_xor (mul a r) x) w next (λ j. b (suc j)))
+    bytes-cons _ (partials r (bit_xor (mul a r) x) w) next
+    (bytes-partials r (bit_xor (mul a r) x) w next (λ j. b (suc j)))
 
 pub quotient_first : (r : ℕ) (v : List ℕ) → get_or (quotient r v) 0 0 ≡ get_or v 0 0
 unfolding partials

@@ -37,7 +37,8 @@ no_error : (w : List ℕ) (i : ℕ) {e : ℕ} → e ≡ 0 → added w i e ≡ w
 no_error w i z =
     ap (λ (x : ℕ). set w i (bit_xor (get_or w i 0) x)) z ∙ ap (set w i) (xor_zero_r (get_or w i 0)) ∙ set-get_or w i 0
 
-pub clean_nearest : (k : ℕ) (w : List ℕ) → Bytes w → length w ≤ 255 → k ≤ 16 → is_code_block w ≡ true → w ≡ nearest_of k w
+pub clean_nearest : (k : ℕ) (w : List ℕ) → Bytes w → length w ≤ 255 → k ≤ 16 → is_code_block w ≡ true
+    → w ≡ nearest_of k w
 clean_nearest k w b most low t = sym (nearest_near k w low most b w (near_self k w b (is_code_block_code w t)))
 
 pub remains : (w : List ℕ) {rest : List ℕ} → Bytes w → 32 ≤ length w → rest ≡ remainder_of w → Remains w rest

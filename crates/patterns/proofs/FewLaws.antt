@@ -211,7 +211,8 @@ avoids_left zero n r u le h d behind one p none = avoids_last n r u le h d behin
 avoids_left (suc k) zero r u le h d behind one p none = omega (arith, none_ones u (λ i. behind i (omega arith)))
 avoids_left (suc k) (suc n) r [] le h d behind one p none = omega arith
 avoids_left (suc k) (suc n) r (zero ∷ u) le h d behind one p none =
-    avoids_left (suc k) n (bit_in r) u (omega arith) (bit_in-lt r) (λ q. d (suc q)) (λ q i. behind (suc q) (omega arith))
+    avoids_left (suc k) n (bit_in r) u (omega arith) (bit_in-lt r) (λ q. d (suc q))
+    (λ q i. behind (suc q) (omega arith))
     (omega arith) (tried_zero k n r h p) (ap (λ (x : ℕ). left x u) (sym (xor_zero_r (bit_in r))) ∙ none)
 avoids_left (suc k) (suc n) r (suc zero ∷ u) le h d behind one p none =
     avoids_left k n (bit_xor (bit_in r) 1) u (omega arith) (digit_lt r 1 (omega arith)) (λ q. d (suc q))

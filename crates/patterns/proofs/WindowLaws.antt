@@ -32,7 +32,8 @@ unfolding left
 in_window n v [] le h d behind none = (none, λ p. refl)
 in_window zero v (t ∷ u) le h d behind none =
     let rest = in_window zero (bit_in v) u le (bit_in-lt v) (λ p. d (suc p)) (λ p i. behind (suc p) (omega arith))
-    (ap (λ (x : ℕ). left x u) (sym (ap (bit_xor (bit_in v)) (behind 0 (omega arith)) ∙ xor_zero_r (bit_in v))) ∙ none) in
+    (ap (λ (x : ℕ). left x u) (sym (ap (bit_xor (bit_in v)) (behind 0 (omega arith)) ∙ xor_zero_r (bit_in v))) ∙ none)
+    in
     (bit_in_none v h rest.0, zeros-cons t u (behind 0 (omega arith)) rest.1)
 in_window (suc n) v (t ∷ u) le h d behind none =
     let room : 16 - n ≡ suc (16 - suc n) = omega arith in

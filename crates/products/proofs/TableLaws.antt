@@ -37,7 +37,8 @@ module _ (powers logs : List ℕ) (size : length powers ≡ 1024) (logs-size : l
   unfolding alpha_to stepwise
   power_at zero h = one
   power_at (suc k) h =
-      eqb→eq (get_or powers (suc k) 0) (up (get_or powers k 0)) (all_below_at (stepwise powers) 510 step k (omega arith))
+      eqb→eq (get_or powers (suc k) 0) (up (get_or powers k 0))
+      (all_below_at (stepwise powers) 510 step k (omega arith))
       ∙ ap up (power_at k (omega arith))
 
   zero_at : (k : ℕ) → 511 ≤ k → k < 1024 → get_or powers k 0 ≡ 0

@@ -113,7 +113,8 @@ eval_zeros n a (suc p) h =
 
 -- the same byte before and after in both words: only the sum of the two that differ is left
 one_sum : (r x y : ℕ) (u v : List ℕ)
-    → bit_xor (value_at r (u ++ (x ∷ v))) (value_at r (u ++ (y ∷ v))) ≡ eval_from r (bit_xor x y) (replicate (length v) 0)
+    → bit_xor (value_at r (u ++ (x ∷ v))) (value_at r (u ++ (y ∷ v)))
+    ≡ eval_from r (bit_xor x y) (replicate (length v) 0)
 unfolding xors
 one_sum r x y u v =
     ends_sum r u (x ∷ v) (y ∷ v) refl ∙ value_cons r (bit_xor x y) (xors v v)

@@ -75,7 +75,8 @@ unfolding apart
 wrong_bytes = refl
 
 both_frames : (judge_of Format.A sent ≡ Frame.Accepted 20 15) × (judge_of Format.A other ≡ Frame.Accepted 20 15)
-unfolding judge_of by_length by_checks frame_size size_of cut first_wrong block_ok check_of reg_of byte_in bits_in bit_in
+unfolding judge_of by_length by_checks frame_size size_of cut first_wrong block_ok check_of reg_of byte_in bits_in
+    bit_in
 both_frames = (refl, refl)
 
 other_taken : proposal_of Format.A other heard17 ≡ Proposal.Taken 16

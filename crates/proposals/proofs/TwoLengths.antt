@@ -64,11 +64,13 @@ pub all_are_bytes : Bytes heard × (Bytes long × Bytes short)
 all_are_bytes = (all_bytes heard tt, (all_bytes long tt, all_bytes short tt))
 
 short-accepted : judge_of Format.B short ≡ Frame.Accepted 13 10
-unfolding judge_of by_length by_checks frame_size size_of cut first_wrong block_ok check_of reg_of byte_in bits_in bit_in
+unfolding judge_of by_length by_checks frame_size size_of cut first_wrong block_ok check_of reg_of byte_in bits_in
+    bit_in
 short-accepted = refl
 
 long-accepted : judge_of Format.B long ≡ Frame.Accepted 77 74
-unfolding judge_of by_length by_checks frame_size size_of cut first_wrong block_ok check_of reg_of byte_in bits_in bit_in
+unfolding judge_of by_length by_checks frame_size size_of cut first_wrong block_ok check_of reg_of byte_in bits_in
+    bit_in
 long-accepted = refl
 
 -- ---- both are taken

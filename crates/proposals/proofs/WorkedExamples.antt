@@ -66,6 +66,7 @@ seventeen_differ =
 
 -- the proposal's last check byte is wrong: its value at the last root is not 0
 pub no_code_word : proposal_of Format.A (set word 51 0) (came 17) ≡ Proposal.Refused Refusal.NotCode
-unfolding proposal_of proposal_by compared size_in not_too_long frame_size size_of cut apart all_zero root alpha_to eval_from mul
+unfolding proposal_of proposal_by compared size_in not_too_long frame_size size_of cut apart all_zero root alpha_to
+    eval_from mul
     times_bits up
 no_code_word = refl

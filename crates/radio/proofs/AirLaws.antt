@@ -91,7 +91,8 @@ module _ {k : Kind} {s : List ℕ} {place : ℕ} {c : List ℕ} where
   holds_sent : SentAt k s place c → Holds (line_of k) s (place + lead_of k) (frame_of (format_of k) c)
   holds_sent p j h =
       let regroup : place + lead_of k + j ≡ place + (lead_of k + j) = omega arith in
-      ap (chip_at s) regroup ∙ p.chips (lead_of k + j) (omega (arith, sent_chips_frame k c)) ∙ chip_at_sent_frame k c j h
+      ap (chip_at s) regroup ∙ p.chips (lead_of k + j) (omega (arith, sent_chips_frame k c))
+      ∙ chip_at_sent_frame k c j h
 
   there_sent :
       SentAt k s place c

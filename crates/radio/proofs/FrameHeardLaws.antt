@@ -1,4 +1,5 @@
--- A frame behind its sync chips (specs/Receiving, `frame_after`): accepted exactly where its content's code words stand.
+-- A frame behind its sync chips (specs/Receiving, `frame_after`): accepted exactly where its content's code words
+-- stand.
 --     frame_after_coded    where they stand and there is room for the content, it is handed over
 --     coded_read          and where the bytes that were decoded are a frame, its content's code words stand there
 use mathlib.Core.List.{List, [], ◌++◌, append-nil}

@@ -114,11 +114,13 @@ module _ (k : Kind) (p d : List ℕ) where
     drop_coded =
         let front : length (take start d) ≡ length (sync_bytes k) = omega (arith, length-take start d) in
         drop_at (take start d) coded (length (sync_bytes k)) front
-        ∙ ap (λ (x : List ℕ). encoding (line_of k) p ++ x) (drop-drop size start d ∙ ap (λ (x : ℕ). drop (x + size) d) e)
+        ∙ ap (λ (x : List ℕ). encoding (line_of k) p ++ x)
+        (drop-drop size start d ∙ ap (λ (x : ℕ). drop (x + size) d) e)
 
     -- the bytes, when the sync chips stand in front
     air_coded :
-        sync_bytes k ++ drop (length (sync_bytes k)) (take start d ++ coded) ≡ air_of k p ++ drop (air_size k (length p)) d
+        sync_bytes k ++ drop (length (sync_bytes k)) (take start d ++ coded)
+        ≡ air_of k p ++ drop (air_size k (length p)) d
     unfolding air_of
     air_coded =
         ap (λ (x : List ℕ). sync_bytes k ++ x) drop_coded

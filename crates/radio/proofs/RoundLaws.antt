@@ -1,5 +1,6 @@
 -- Sending and receiving undo each other, for every kind (document 01; specs/Sending, specs/Heard).
---     sending_of_accepts    sending, where content and room are right; sending_of-accepted: and nothing else is accepted
+--     sending_of_accepts    sending, where content and room are right; sending_of-accepted: and nothing else is
+--                           accepted
 --     sent_at_among         what was sent stands among other bytes as SentAt says
 --     receiving_of_among    so it is received there, where the call reaches it
 --     sent_heard           receiving what was sent gives back content and kind, at place 0, as the first position tried
@@ -57,7 +58,8 @@ module _ (k : Kind) (c : List ℕ) where
         → sending_of k c d ≡ record { answer = Written.Accepted sent_size; memory = sent_of k c ++ drop sent_size d }
     unfolding sending_of putting
     sending_of_accepts low high room =
-        let allowed = within_true (form_of (format_of k)).shortest (form_of (format_of k)).longest (length c) low high in
+        let allowed = within_true (form_of (format_of k)).shortest (form_of (format_of k)).longest (length c) low high
+        in
         rw (allowed, length_frame_of (format_of k) c, le-ltb (length d) sent_size room)
 
     record Sendable : Type 0 where
@@ -91,7 +93,13 @@ module _ (k : Kind) (c : List ℕ) where
           bytes = bytes;
           low = low;
           high = high;
-          whole = omega (arith, sent_chips-le, length-append pre (sent_of k c ++ post), length-append (sent_of k c) post);
+          whole = omega (
+            arith,
+            sent_chips-le,
+            length-append pre (sent_of k c ++ post),
+            length-append (sent_of k c)
+                post,
+          );
           chips = λ i h. chip_at_middle pre (sent_of k c) post i (omega (arith, sent_chips-le));
         }
 

@@ -84,7 +84,8 @@ module _ (κ : LineCode) (s : List ℕ) (at n : ℕ) (d : List ℕ) (next : Outc
         pub after_words_cases : (Through κ s at n → P next) → P (after_words κ s at n d next)
         unfolding after_words
         after_words_cases on =
-            by_tests on (in_range s at) refl (ltb (chip_count s) (at + chips_in κ n)) refl (ltb good (words_in κ n)) refl
+            by_tests on (in_range s at) refl (ltb (chip_count s) (at + chips_in κ n)) refl (ltb good (words_in κ n))
+            refl
 
   pub after_words_through : Through κ s at n → after_words κ s at n d next ≡ next
   unfolding after_words

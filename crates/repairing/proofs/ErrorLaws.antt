@@ -91,7 +91,8 @@ module _ {u w s : List ℕ} (word : Word u w s) (c : List ℕ) (near : Near 16 u
         subst (λ (n : ℕ). combined s q 0 ≡ mul (get_or errors j 0) (term (value_at (step_to n) q) n 0))
         (ap (λ (n : ℕ). n - suc j) errors_count ∙ place)
         (alone_value 112 errors s errors_bytes errors_values q bq j (omega (arith, errors_count)) short
-        (λ i h no. subst (λ (n : ℕ). (get_or errors i 0 ≡ 0) ⊎ (value_at (step_to (n - suc i)) q ≡ 0)) (sym errors_count)
+        (λ i h no. subst (λ (n : ℕ). (get_or errors i 0 ≡ 0) ⊎ (value_at (step_to (n - suc i)) q ≡ 0))
+        (sym errors_count)
         (others i (omega (arith, errors_count)) no)))
 
     products_same : (y e : ℕ) → y ≡ value_at (step_to p) q → Tells s q y p e

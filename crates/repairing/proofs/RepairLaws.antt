@@ -49,7 +49,8 @@ module _ {s v : List ℕ} {d : ℕ} (found : Locates s v d) where
   part_lead : get_or part 0 0 ≡ 1
   part_lead =
       let e : low + 0 ≡ low = omega arith in
-      ap (λ (l : List ℕ). get_or l 0 0) part_is ∙ get_or-drop low v 0 0 ∙ ap (λ (k : ℕ). get_or v k 0) e ∙ found.poly.lead
+      ap (λ (l : List ℕ). get_or l 0 0) part_is ∙ get_or-drop low v 0 0 ∙ ap (λ (k : ℕ). get_or v k 0) e
+      ∙ found.poly.lead
 
   part_bytes : Bytes part
   part_bytes = bytes_take (17 - low) (drop low v) (bytes_drop low v found.poly.bytes)

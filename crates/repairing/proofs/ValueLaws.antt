@@ -29,7 +29,8 @@ pub next_term : (e p k : ℕ) {t u : ℕ} → e < 256 → t ≡ term e p k → u
 next_term e p k small et eu =
     let a = 11 * ((112 + k) * p) in
     let n : a + 11 * p ≡ 11 * ((112 + (k + 1)) * p) = omega arith in
-    eu ∙ ap₂ mul et (sym (alpha_to-mod (11 * p))) ∙ field.mul_assoc e (alpha_to a) (alpha_to (11 * p)) small (alpha_to-lt a)
+    eu ∙ ap₂ mul et (sym (alpha_to-mod (11 * p)))
+    ∙ field.mul_assoc e (alpha_to a) (alpha_to (11 * p)) small (alpha_to-lt a)
     ∙ ap (mul e) (alpha_to-add a (11 * p) ∙ ap alpha_to n)
 
 -- nothing but 0 adds nothing

@@ -73,7 +73,8 @@ module _ (k : ℕ) (s : List ℕ) (right : right_body k s ≡ true) where
 
   module _ (bytes : Bytes s) where
     fit_body :
-        (i : ℕ) → i < get_or s (k + 1) 0 → Fits (get_or (meters_in (get_or s (k + 1) 0) (drop (k + 2) s)) i (stranger 0))
+        (i : ℕ) → i < get_or s (k + 1) 0
+        → Fits (get_or (meters_in (get_or s (k + 1) 0) (drop (k + 2) s)) i (stranger 0))
     fit_body i h =
         let t = drop (k + 2) s in
         rw (get_d_meters_in (get_or s (k + 1) 0) t i (stranger 0) h)

@@ -46,14 +46,20 @@ module _ (s : List ℕ) (bytes : Bytes s) where
     take_head : get_or s 0 0 ≡ 2 → take 6 s ≡ 2 ∷ 4 ∷ four_bytes (four_at s 2)
     take_head two =
         let long : 6 ≤ length s = omega (arith, room_body 6 s right_two) in
-        cc (take-drop 6 s 0 long, four_bytes-four_at s bytes 2, eqb-true (get_or s 1 0) 4 (and_left _ (right_body 6 s) ok))
+        cc (
+          take-drop 6 s 0 long,
+          four_bytes-four_at s bytes 2,
+          eqb-true (get_or s 1 0) 4
+              (and_left _ (right_body 6 s) ok),
+        )
 
     take_two : get_or s 0 0 ≡ 2 → take (8 + 20 * get_or s 7 0) s ≡ bytes_of (store_in 6 (four_at s 2) s)
     take_two two =
         rw (length-meters_in (get_or s 7 0) (drop 8 s)) (take_body 6 s right_two bytes ∙ rw (take_head two))
 
   take_one :
-      get_or s 0 0 ≡ 1 → right_body 1 s ≡ true → take (3 + 20 * get_or s 2 0) s ≡ version_one (store_in 1 16384 s).meters
+      get_or s 0 0 ≡ 1 → right_body 1 s ≡ true
+      → take (3 + 20 * get_or s 2 0) s ≡ version_one (store_in 1 16384 s).meters
   take_one one right =
       let long : 1 ≤ length s = omega (arith, room_body 1 s right) in
       rw (length-meters_in (get_or s 2 0) (drop 3 s)) (take_body 1 s right bytes ∙ rw (take-drop 1 s 0 long, one))

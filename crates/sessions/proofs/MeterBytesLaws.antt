@@ -120,4 +120,5 @@ meters_bytes-append (m ∷ ms) fs =
 pub bytes-meters_bytes : (ms : List Meter) → Bytes (meters_bytes ms)
 unfolding meters_bytes
 bytes-meters_bytes [] = bytes-nil
-bytes-meters_bytes (m ∷ ms) = bytes-append (meter_bytes m) (meters_bytes ms) (bytes-meter_bytes m) (bytes-meters_bytes ms)
+bytes-meters_bytes (m ∷ ms) =
+    bytes-append (meter_bytes m) (meters_bytes ms) (bytes-meter_bytes m) (bytes-meters_bytes ms)

@@ -75,7 +75,8 @@ unfolding all_right
 right_meter_at zero s i right h = absurd (omega arith)
 right_meter_at (suc n) s zero right h = and_left _ _ right
 right_meter_at (suc n) s (suc i) right h =
-    sym (ap right_meter (drop_next i s)) ∙ right_meter_at n (drop 20 s) i (and_right (right_meter s) _ right) (omega arith)
+    sym (ap right_meter (drop_next i s))
+    ∙ right_meter_at n (drop 20 s) i (and_right (right_meter s) _ right) (omega arith)
 
 pub meters_in-suc : (i : ℕ) (s : List ℕ) → meters_in (suc i) s ≡ meters_in i s ++ (meter_in (drop (20 * i) s) ∷ [])
 unfolding meters_in

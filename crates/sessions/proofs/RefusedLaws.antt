@@ -54,7 +54,8 @@ module _ (s : List ℕ) where
       pub memory_of_else : BadOrKept (memory_of s)
       memory_of_else =
           rw (filled, two)
-          (if_right_else (leb memory_size (length s) && (eqb (get_or s 1 0) 4 && right_body 6 s)) (store_in 6 (four_at s 2) s))
+          (if_right_else (leb memory_size (length s) && (eqb (get_or s 1 0) 4 && right_body 6 s))
+          (store_in 6 (four_at s 2) s))
 
       pub memory_of_bad : Bytes s → (memory_of s ≡ Refuse BadStore) ↔ ((st : Store) → Within s st → ⊥)
       memory_of_bad bytes = bad_none (λ st. memory_of_exactly s st bytes) memory_of_else
@@ -74,7 +75,8 @@ module _ (s : List ℕ) where
       file_of_else =
           rw (ne_eqb (length s) 0 not_empty)
           (⊎_elim (λ one. rw one (if_right_else (right_body 1 s && whole 1 s) (store_in 1 16384 s)))
-          (λ two. rw two (if_right_else (eqb (get_or s 1 0) 4 && (right_body 6 s && whole 6 s)) (store_in 6 (four_at s 2) s)))
+          (λ two. rw two (if_right_else (eqb (get_or s 1 0) 4 && (right_body 6 s && whole 6 s))
+          (store_in 6 (four_at s 2) s)))
           known)
 
       pub file_of_bad : Bytes s → (file_of s ≡ Refuse BadStore) ↔ ((st : Store) → IsFile s st → ⊥)

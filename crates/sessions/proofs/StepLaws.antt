@@ -92,8 +92,10 @@ module _ (b : ℕ) (st : Store) where
   on_store_unsure (Allow n) none u after h = keeping.allowing_unsure b st after n h u
 
   pub store_after_unsure :
-      (c : Call) → ((n : ℕ) → c ≡ Hear b n → ⊥) → keeping.unsure b st ≡ true → keeping.unsure b (store_after c st) ≡ true
-  store_after_unsure c none u = store_after_by (λ after. keeping.unsure b after ≡ true) c st u (on_store_unsure c none u)
+      (c : Call) → ((n : ℕ) → c ≡ Hear b n → ⊥) → keeping.unsure b st ≡ true
+      → keeping.unsure b (store_after c st) ≡ true
+  store_after_unsure c none u = store_after_by (λ after. keeping.unsure b after ≡ true) c st u
+      (on_store_unsure c none u)
 
 pub on_store_restore :
     (file : List ℕ) (st : Store) {after : Store} → on_store (Restore file) st ≡ Keep after

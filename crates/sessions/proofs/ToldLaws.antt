@@ -71,7 +71,8 @@ module _ (s : List ℕ) (st : Store) (is : memory_of s ≡ Keep st) where
     heard_by_hear : (a n : ℕ) → heard_by b s (Hear a n) ≡ cond (eqb a b) (if_kept (λ st. n) (hearing a n st)) []
     heard_by_hear a n =
         ap (λ l. cond (eqb a b) l [])
-        (hearing-if_kept s n (memory_of s and_then hearing a n) ∙ ap (λ r. if_kept (λ st. n) (r and_then hearing a n)) is)
+        (hearing-if_kept s n (memory_of s and_then hearing a n)
+        ∙ ap (λ r. if_kept (λ st. n) (r and_then hearing a n)) is)
 
     issued_by_issue : (a : ℕ) → issued_by b s (Issue a) ≡ cond (eqb a b) (if_kept (last a) (issued a st)) []
     issued_by_issue a =

@@ -121,7 +121,8 @@ module _
   abbrev entered : List ℕ
   entered = set (set table (509 + k) (get_or table own 0)) own (suc k)
 
-  slots_next : (t : Bool) (h : ℕ) → eqb own h ≡ t → h < 509 → get_or entered h 0 ≡ cond t (suc k) (last_with s first h k)
+  slots_next : (t : Bool) (h : ℕ) → eqb own h ≡ t → h < 509
+      → get_or entered h 0 ≡ cond t (suc k) (last_with s first h k)
   slots_next true h e low =
       rw (← eqb-true own h e)
       (get_or-set_same (set table (509 + k) (get_or table own 0)) own (suc k) 0
@@ -133,7 +134,8 @@ module _
   linked :
       (j : ℕ) →
       (j ≡ k) ⊎ (j < k) →
-      get_or (set table (509 + k) (get_or table own 0)) (509 + j) 0 ≡ last_with s first (slot_of (address_at s first j)) j
+      get_or (set table (509 + k) (get_or table own 0)) (509 + j) 0
+      ≡ last_with s first (slot_of (address_at s first j)) j
   linked j (inl same) =
       rw same (get_or-set_same table (509 + k) (get_or table own 0) 0 (omega arith) ∙ is.slots own (omega arith))
   linked j (inr low) =

@@ -61,7 +61,8 @@ module _ (s : List ℕ) (first i : ℕ) where
       let there = place_of_there a (meters_in i t) (place_of_held a (meters_in i t) (rw size before)) in
       let earlier : (get_or (meters_in n t) p (stranger 0)).address ≡ a =
       rw (← get_or-take i (meters_in n t) p (stranger 0) before, take-meters_in i n t (omega arith)) there in
-      let later : (get_or (meters_in n t) i (stranger 0)).address ≡ a = rw (get_d_meters_in n t i (stranger 0) low, behind) in
+      let later : (get_or (meters_in n t) i (stranger 0)).address
+      ≡ a = rw (get_d_meters_in n t i (stranger 0) low, behind) in
       let long = length-meters_in n t in
       let inside : p < length (meters_in n t) = omega (arith, before, low, long) in
       not_true (unlike [] (meters_in n t)) (λ once.

@@ -93,7 +93,8 @@ unfolding place_of put
 put_place_of a m [] = refl
 put_place_of a m (x ∷ ms) = put-cons (eqb x.address a) m x ms (place_of a ms) (put_place_of a m ms)
 
-pub place_of_there : (a : ℕ) (ms : List Meter) → holds a ms ≡ true → (get_or ms (place_of a ms) (stranger 0)).address ≡ a
+pub place_of_there : (a : ℕ) (ms : List Meter) → holds a ms ≡ true
+    → (get_or ms (place_of a ms) (stranger 0)).address ≡ a
 unfolding place_of holds
 place_of_there a [] h = absurd (true≢false (sym h))
 place_of_there a (m ∷ ms) h = there-cons (eqb m.address a) m ms (place_of a ms) refl (place_of_there a ms) h

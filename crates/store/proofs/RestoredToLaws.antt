@@ -158,7 +158,8 @@ module _ (s : List ℕ) (count : ℕ) (file : List ℕ) (first i : ℕ) where
           ap length restored_to-suc ∙ length_put_new (address_at file first i) _ R holds_new
 
       pub place_of_new :
-          place_of (address_at file first i) (restored_to s count file first i) ≡ length (restored_to s count file first i)
+          place_of (address_at file first i) (restored_to s count file first i)
+          ≡ length (restored_to s count file first i)
       place_of_new = sym (place_of_absent (address_at file first i) (restored_to s count file first i) holds_new)
 
   pub place_of_next_lt :

@@ -28,10 +28,12 @@ returns-then-not-is_letter-2 c =
 
 pub returns-then-not-is_letter-3 : goal.returns-then-not-is_letter-3
 returns-then-not-is_letter-3 c =
-    letters_of_third c.args.m (first-is (goal.at.returns-then-not-is_letter-3 c).Else-not-is_letter) (second_is (goal.at.returns-then-not-is_letter-3 c).Else-not-is_letter-2)
+    letters_of_third c.args.m (first-is (goal.at.returns-then-not-is_letter-3 c).Else-not-is_letter)
+    (second_is (goal.at.returns-then-not-is_letter-3 c).Else-not-is_letter-2)
     (sym c.is_letter-3.ensures ∙ not-true _ c.if-not-is_letter-3.true-raw)
 
 pub returns : goal.returns
 returns c =
-    letters_of-all c.args.m (first-is (goal.at.returns c).Else-not-is_letter) (second_is (goal.at.returns c).Else-not-is_letter-2)
+    letters_of-all c.args.m (first-is (goal.at.returns c).Else-not-is_letter)
+    (second_is (goal.at.returns c).Else-not-is_letter-2)
     (sym c.is_letter-3.ensures ∙ not-false _ c.if-not-is_letter-3.false-raw)

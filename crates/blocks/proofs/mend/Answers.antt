@@ -29,7 +29,8 @@ update-accepted c =
     rw (le-leb a.distance 125 (omega arith), e, c.check_at-old_check.ensures) at c.update.ensures.settles
 
 pub returns-in_default : goal.returns-in_default
-returns-in_default c = absurd (accepted-refused (sym (update-accepted (goal.at.returns-in_default c).After-update) ∙ c.in_default.is))
+returns-in_default c =
+    absurd (accepted-refused (sym (update-accepted (goal.at.returns-in_default c).After-update) ∙ c.in_default.is))
 
 pub bounds-s-check : goal.bounds-s-check
 bounds-s-check c = simp length-set (omega arith)

@@ -30,7 +30,8 @@ pub overflow_sub-first : goal.overflow_sub-first
 overflow_sub-first c = omega arith
 
 pub put_first-requires : goal.put_first-requires
-put_first-requires c = (omega (arith, c.smaller-done.ensures), omega (arith, first-room (goal.at.put_first-requires c).After-smaller-done))
+put_first-requires c =
+    (omega (arith, c.smaller-done.ensures), omega (arith, first-room (goal.at.put_first-requires c).After-smaller-done))
 
 pub overflow_add-at : goal.overflow_add-at
 overflow_add-at c = omega (arith, first-room (goal.at.overflow_add-at c).After-smaller-done)
@@ -48,13 +49,16 @@ pub overflow_sub-c : goal.overflow_sub-c
 overflow_sub-c c = omega (arith, c.loop-done.invariant.below)
 
 pub put_span-requires : goal.put_span-requires
-put_span-requires c = (omega (arith, c.smaller-k.ensures), omega (arith, room (goal.at.put_span-requires c).After-smaller-k))
+put_span-requires c =
+    (omega (arith, c.smaller-k.ensures), omega (arith, room (goal.at.put_span-requires c).After-smaller-k))
 
 pub overflow_add-at-in-loop-done : goal.overflow_add-at-in-loop-done
-overflow_add-at-in-loop-done c = omega (arith, room (goal.at.overflow_add-at-in-loop-done c).After-smaller-k, c.put_span.auto.out)
+overflow_add-at-in-loop-done c =
+    omega (arith, room (goal.at.overflow_add-at-in-loop-done c).After-smaller-k, c.put_span.auto.out)
 
 pub overflow_add-at-in-loop-done-2 : goal.overflow_add-at-in-loop-done-2
-overflow_add-at-in-loop-done-2 c = omega (arith, room (goal.at.overflow_add-at-in-loop-done-2 c).After-smaller-k, c.put_span.auto.out)
+overflow_add-at-in-loop-done-2 c =
+    omega (arith, room (goal.at.overflow_add-at-in-loop-done-2 c).After-smaller-k, c.put_span.auto.out)
 
 pub overflow_add-done : goal.overflow_add-done
 overflow_add-done c = omega (arith, c.smaller-k.ensures)

@@ -22,8 +22,11 @@ loop-left-init c =
 
 pub copy_part-requires : goal.copy_part-requires
 copy_part-requires c =
-    let w = c.loop-left in
-    (omega (arith, room (goal.at.copy_part-requires c).After-smaller-k), omega (arith, c.smaller-k.ensures, w.invariant.long, w.invariant.all))
+    let w = c.loop-left in (
+      omega (arith, room (goal.at.copy_part-requires c).After-smaller-k),
+      omega
+          (arith, c.smaller-k.ensures, w.invariant.long, w.invariant.all),
+    )
 
 pub overflow_add-at : goal.overflow_add-at
 overflow_add-at c = omega (arith, room (goal.at.overflow_add-at c).After-smaller-k)

@@ -20,7 +20,8 @@ returns-then-entry-i c =
     let i = c.loop-i.i in
     let s = c.args.content.now in
     sym (sym c.loop-i.invariant.1
-    ∙ same_bytes_differ c.args.entry (name_of s) i (omega (arith, eight (goal.at.returns-then-entry-i c).At-loop-i)) (omega (arith, eight (goal.at.returns-then-entry-i c).At-loop-i))
+    ∙ same_bytes_differ c.args.entry (name_of s) i (omega (arith, eight (goal.at.returns-then-entry-i c).At-loop-i))
+    (omega (arith, eight (goal.at.returns-then-entry-i c).At-loop-i))
     (λ e. omega (arith, c.if-entry-i.true, get_d_name_of s i (omega arith))))
 
 pub loop-i-preserved : goal.loop-i-preserved
@@ -28,7 +29,8 @@ loop-i-preserved c =
     let i = c.loop-i.i in
     let s = c.args.content.now in (
       omega arith,
-      same_bytes_next c.args.entry (name_of s) i (omega (arith, eight (goal.at.loop-i-preserved c).At-loop-i)) (omega (arith, eight (goal.at.loop-i-preserved c).At-loop-i))
+      same_bytes_next c.args.entry (name_of s) i (omega (arith, eight (goal.at.loop-i-preserved c).At-loop-i))
+          (omega (arith, eight (goal.at.loop-i-preserved c).At-loop-i))
           (omega (arith, c.if-entry-i.false, get_d_name_of s i (omega arith)))
           ∙ c.loop-i.invariant.1,
     )
@@ -38,4 +40,5 @@ returns c =
     let s : List ℕ = c.args.content.now in
     let a : List ℕ = c.args.entry in
     sym (sym c.loop-i.invariant.1
-    ∙ same_bytes_end a (name_of s) c.loop-i.i (omega (arith, eight (goal.at.returns c).At-loop-i)) (omega (arith, eight (goal.at.returns c).At-loop-i)))
+    ∙ same_bytes_end a (name_of s) c.loop-i.i (omega (arith, eight (goal.at.returns c).At-loop-i))
+    (omega (arith, eight (goal.at.returns c).At-loop-i)))

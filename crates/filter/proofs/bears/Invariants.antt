@@ -7,7 +7,8 @@ use Rattle.address.specs.Names.{name_of, same_bytes}
 use Rattle.filter.proofs.bears.Given as goal
 
 abbrev pub invariant-loop-i : goal.invariant-loop-i
-invariant-loop-i l = (l.i ≤ 8) × (same_bytes (drop l.i l.entry) (drop l.i (name_of l.content)) ≡ same_bytes l.entry (name_of l.content))
+invariant-loop-i l =
+    (l.i ≤ 8) × (same_bytes (drop l.i l.entry) (drop l.i (name_of l.content)) ≡ same_bytes l.entry (name_of l.content))
 
 abbrev pub decreases-loop-i : goal.decreases-loop-i
 decreases-loop-i l = 8 - l.i

@@ -29,13 +29,15 @@ returns-then-bears c =
     let a = c.args in
     let s = a.content.now in
     verdict_of_rest a.entries a.count c.loop-k.k s (omega arith) (omega arith) c.loop-k.invariant.1
-    (listed_here a.entries a.count (name_of s) (within (goal.at.returns-then-bears c).Start (omega arith)) c.loop-k.k (omega arith)
+    (listed_here a.entries a.count (name_of s) (within (goal.at.returns-then-bears c).Start (omega arith)) c.loop-k.k
+    (omega arith)
     (sym c.bears.ensures ∙ c.if-bears.true))
 
 pub loop-k-preserved : goal.loop-k-preserved
 loop-k-preserved c =
     let a = c.args in
-    let next = listed_next a.entries a.count (name_of a.content.now) (within (goal.at.loop-k-preserved c).Start (omega arith)) in
+    let next = listed_next a.entries a.count (name_of a.content.now)
+    (within (goal.at.loop-k-preserved c).Start (omega arith)) in
     (omega arith, next c.loop-k.k (omega arith) (sym c.bears.ensures ∙ c.if-bears.false) ∙ c.loop-k.invariant.1)
 
 pub returns : goal.returns

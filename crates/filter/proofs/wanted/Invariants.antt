@@ -10,7 +10,8 @@ use Rattle.filter.proofs.wanted.Given as goal
 abbrev pub invariant-loop-k : goal.invariant-loop-k
 invariant-loop-k l =
     (l.k ≤ l.count)
-    × (listed (name_of l.content) (drop l.k (take l.count l.entries)) ≡ listed (name_of l.content) (take l.count l.entries))
+    × (listed (name_of l.content) (drop l.k (take l.count l.entries))
+    ≡ listed (name_of l.content) (take l.count l.entries))
 
 abbrev pub decreases-loop-k : goal.decreases-loop-k
 decreases-loop-k l = l.count - l.k

@@ -27,7 +27,8 @@ length-le c =
 pub returns-then-n-place : goal.returns-then-n-place
 returns-then-n-place c =
     let a = c.args in
-    sym (changing_of_bad_place a.f a.s.now a.place a.byte (judged (goal.at.returns-then-n-place c).In-Accepted) (omega (arith, c.if-n-place.true)))
+    sym (changing_of_bad_place a.f a.s.now a.place a.byte (judged (goal.at.returns-then-n-place c).In-Accepted)
+    (omega (arith, c.if-n-place.true)))
 
 pub overflow_add-n : goal.overflow_add-n
 overflow_add-n c = omega (arith, length-le (goal.at.overflow_add-n c).In-Accepted)
@@ -59,4 +60,5 @@ pub returns-else-n-place : goal.returns-else-n-place
 returns-else-n-place c =
     let a = c.args in
     rw (c.set_byte.ensures, c.first.ensures, c.later.ensures)
-    (sym (change_mends a.f a.s.now a.place a.byte (judged (goal.at.returns-else-n-place c).In-Accepted) c.if-n-place.false))
+    (sym (change_mends a.f a.s.now a.place a.byte (judged (goal.at.returns-else-n-place c).In-Accepted)
+    c.if-n-place.false))

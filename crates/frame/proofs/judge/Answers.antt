@@ -29,9 +29,15 @@ sized c = sym c.frame_size.ensures ∙ c.in-Accepted.is
 whole :
     (c : Else-s-size)
     → let a = c.args in
-    judge_of a.f a.s.now ≡ by_checks c.in-Accepted.size c.in-Accepted.n (first_wrong 1 (spans_of a.f c.in-Accepted.n) a.s.now)
+    judge_of a.f a.s.now ≡ by_checks c.in-Accepted.size c.in-Accepted.n
+    (first_wrong 1 (spans_of a.f c.in-Accepted.n) a.s.now)
 whole c =
-    judge_of_whole _ _ (some (record { before = c.before.before.before.before.before; type_inv = record { s = c.shared_slice_known-1.given } })) (sized (record { before = c.before.before; type_inv = record { s = c.shared_slice_known-2-1.given } })) c.if-s-size.false
+    judge_of_whole _ _ (some
+    (record {
+      before = c.before.before.before.before.before;
+      type_inv = record { s = c.shared_slice_known-1.given };
+    })) (sized (record { before = c.before.before; type_inv = record { s = c.shared_slice_known-2-1.given } }))
+    c.if-s-size.false
 
 checked :
     (c : After-first_wrong)
@@ -40,7 +46,11 @@ checked :
     by_checks c.in-Accepted.size c.in-Accepted.n found ≡ judge_of a.f a.s.now
 checked c =
     ap (by_checks _ _) (rw (c.first.ensures, c.later.ensures) at c.first_wrong.ensures)
-    ∙ sym (whole (record { before = c.before.before.before.before; type_inv = record { s = c.shared_slice_known-2-1.given } }))
+    ∙ sym (whole (record {
+      before = c.before.before.before.before;
+      type_inv = record
+          { s = c.shared_slice_known-2-1.given };
+    }))
 
 pub returns-then-s-eq0 : goal.returns-then-s-eq0
 returns-then-s-eq0 c = sym (judge_of-nil c.args.f c.args.s.now c.if-s-eq0.true)
@@ -48,7 +58,8 @@ returns-then-s-eq0 c = sym (judge_of-nil c.args.f c.args.s.now c.if-s-eq0.true)
 pub returns-then-s-size : goal.returns-then-s-size
 returns-then-s-size c =
     let a = c.args in
-    sym (judge_of_short a.f a.s.now (some (goal.at.returns-then-s-size c).Else-s-eq0) (sized (goal.at.returns-then-s-size c).In-Accepted) c.if-s-size.true)
+    sym (judge_of_short a.f a.s.now (some (goal.at.returns-then-s-size c).Else-s-eq0)
+    (sized (goal.at.returns-then-s-size c).In-Accepted) c.if-s-size.true)
 
 pub overflow_add-n : goal.overflow_add-n
 overflow_add-n c =

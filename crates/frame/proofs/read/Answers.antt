@@ -47,4 +47,5 @@ unfolding content_in
 returns-else-out-n c =
     let a = c.args in
     rw (c.take_out.ensures, c.first.ensures, c.later.ensures)
-    (sym (reading_of_accepted a.f a.s.now a.out.now (judged (goal.at.returns-else-out-n c).In-Accepted) c.if-out-n.false))
+    (sym (reading_of_accepted a.f a.s.now a.out.now (judged (goal.at.returns-else-out-n c).In-Accepted)
+    c.if-out-n.false))

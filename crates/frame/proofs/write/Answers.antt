@@ -45,7 +45,8 @@ returns-then-longest-n c =
 pub returns-then-out-size : goal.returns-then-out-size
 returns-then-out-size c =
     let a = c.args in
-    sym (writing_of_no_room a.f a.content.now a.out.now (low (goal.at.returns-then-out-size c).Else-n-shortest) (high (goal.at.returns-then-out-size c).Else-longest-n)
+    sym (writing_of_no_room a.f a.content.now a.out.now (low (goal.at.returns-then-out-size c).Else-n-shortest)
+    (high (goal.at.returns-then-out-size c).Else-longest-n)
     (omega (arith, c.if-out-size.true, c.size-size.ensures)))
 
 pub put_all-requires : goal.put_all-requires
@@ -53,8 +54,10 @@ unfolding frame_size
 put_all-requires c =
     let a = c.args in
     let first = c.first.ensures in
-    let later = c.later.ensures in
-    (rw first (one-lt_first a.f), (rw later (zero-lt_later a.f), rw (first, later) (room (goal.at.put_all-requires c).Else-out-size)))
+    let later = c.later.ensures in (
+      rw first (one-lt_first a.f),
+      (rw later (zero-lt_later a.f), rw (first, later) (room (goal.at.put_all-requires c).Else-out-size)),
+    )
 
 pub returns : goal.returns
 unfolding frame_of frame_size
@@ -67,5 +70,6 @@ returns c =
       c.length_byte.ensures,
       c.size-size.ensures,
     )
-    (sym (writing_of-accepted a.f a.content.now a.out.now (low (goal.at.returns c).Else-n-shortest) (high (goal.at.returns c).Else-longest-n)
+    (sym (writing_of-accepted a.f a.content.now a.out.now (low (goal.at.returns c).Else-n-shortest)
+    (high (goal.at.returns c).Else-longest-n)
     (room (goal.at.returns c).Else-out-size)))

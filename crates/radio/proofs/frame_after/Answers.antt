@@ -32,7 +32,11 @@ sizeFor-first :
     ≡ size_for (format_of a.kind) (length_at (line_of a.kind) a.s.now (a.place + lead_of a.kind))
 sizeFor-first c =
     let first = get_or-take 1 c.decode.new.out 0 0 (omega arith) in
-    let decoded = take_called (decode-called (record { before = c.before.before.before.before.before; type_inv = record { out = c.slice_known-1.given; s = c.shared_slice_known-1.given } })) c.in-Accepted.is in
+    let decoded = take_called (decode-called (record {
+      before = c.before.before.before.before.before;
+      type_inv = record
+          { out = c.slice_known-1.given; s = c.shared_slice_known-1.given };
+    })) c.in-Accepted.is in
     c.frame_size.ensures
     ∙ ap₂ size_for c.format_of.ensures (sym first ∙ ap (λ (l : List ℕ). get_or l 0 0) decoded)
 
@@ -45,20 +49,29 @@ unfolding frame_after
 bySize-first c e =
     let a = c.args in
     ap (by_size a.kind a.place a.tried a.s.now a.out.now) (sym e ∙ sizeFor-first c)
-    ∙ after_decoded_called (decode-called (record { before = c.before.before.before.before.before; type_inv = record { out = c.slice_known-1.given; s = c.shared_slice_known-1.given } })) c.in-Accepted.is a.out.now _
+    ∙ after_decoded_called (decode-called (record {
+      before = c.before.before.before.before.before;
+      type_inv = record
+          { out = c.slice_known-1.given; s = c.shared_slice_known-1.given };
+    })) c.in-Accepted.is a.out.now _
 
 pub whole-requires : goal.whole-requires
-whole-requires c =
-    (c.requires, size_for_le (format_of c.args.kind) _ (sym (sizeFor-first (goal.at.whole-requires c).After-frame_size) ∙ c.in-Accepted-frame_size.is))
+whole-requires c = (
+  c.requires,
+  size_for_le (format_of c.args.kind) _
+      (sym (sizeFor-first (goal.at.whole-requires c).After-frame_size) ∙ c.in-Accepted-frame_size.is),
+)
 
 pub returns-in-Accepted-frame_size : goal.returns-in-Accepted-frame_size
 unfolding by_size
 returns-in-Accepted-frame_size c =
-    c.whole.ensures ∙ bySize-first (goal.at.returns-in-Accepted-frame_size c).After-frame_size c.in-Accepted-frame_size.is
+    c.whole.ensures ∙ bySize-first (goal.at.returns-in-Accepted-frame_size c).After-frame_size
+    c.in-Accepted-frame_size.is
 
 pub returns-in-Refused-frame_size : goal.returns-in-Refused-frame_size
 unfolding by_size
-returns-in-Refused-frame_size c = bySize-first (goal.at.returns-in-Refused-frame_size c).After-frame_size c.in-Refused-frame_size.is
+returns-in-Refused-frame_size c =
+    bySize-first (goal.at.returns-in-Refused-frame_size c).After-frame_size c.in-Refused-frame_size.is
 
 pub returns-in-Refused : goal.returns-in-Refused
 unfolding frame_after

@@ -24,7 +24,11 @@ unfolding by_sync
 byTail-found c e =
     let a = c.args in
     ap (by_tail c.in-Found.place c.in-Found.tried a.s.now a.out.now) (sym e ∙ c.tail_at.ensures)
-    ∙ bySync-search (record { before = c.before.before.before; type_inv = record { out = c.slice_known-1.given; s = c.shared_slice_known-1.given } }) c.in-Found.is
+    ∙ bySync-search (record {
+      before = c.before.before.before;
+      type_inv = record
+          { out = c.slice_known-1.given; s = c.shared_slice_known-1.given };
+    }) c.in-Found.is
 
 pub frame_after-requires : goal.frame_after-requires
 frame_after-requires c =

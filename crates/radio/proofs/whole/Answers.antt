@@ -40,7 +40,10 @@ read-decoded :
     ◌≡◌ {A = Outcome Frame} (record { answer = c.read.result; memory = left c })
     (reading_of (format_of a.kind) bytes a.out.now)
 read-decoded c =
-    let bytes = take_called (decode-called (record { before = c.before.before.before.before.before.before.before; type_inv = record { out = c.slice_known-1.given; s = c.shared_slice_known-1.given } })) c.in-Accepted.is in
+    let bytes = take_called (decode-called (record {
+      before = c.before.before.before.before.before.before.before;
+      type_inv = record { out = c.slice_known-1.given; s = c.shared_slice_known-1.given };
+    })) c.in-Accepted.is in
     rw (c.format_of.ensures, bytes) at c.read.ensures
 
 -- what its answer x makes of the frame
@@ -53,7 +56,12 @@ byFrame-read c e =
     let a = c.args in
     ap (by_frame a.kind a.place a.tried (left c)) (sym e)
     ∙ ap (λ (o : Outcome Frame). by_frame a.kind a.place a.tried o.memory o.answer) (read-decoded c)
-    ∙ after_decoded_called (decode-called (record { before = c.before.before.before.before.before.before.before; type_inv = record { out = c.slice_known-1.given; s = c.shared_slice_known-1.given } })) c.in-Accepted.is a.out.now _
+    ∙ after_decoded_called
+    (decode-called (record {
+      before = c.before.before.before.before.before.before.before;
+      type_inv = record
+          { out = c.slice_known-1.given; s = c.shared_slice_known-1.given };
+    })) c.in-Accepted.is a.out.now _
 
 pub slice_bounds-read-end : goal.slice_bounds-read-end
 slice_bounds-read-end c = simp length-take (omega arith)

@@ -19,7 +19,8 @@ scanned :
     c.available-there.result c.smaller-most.result c.scan-i.result
 scanned c =
     record {
-      within = room (record { before = c.before.before.before.before; type_inv = record { s = c.shared_slice_known-1.given } });
+      within = room (record
+          { before = c.before.before.before.before; type_inv = record { s = c.shared_slice_known-1.given } });
       there = omega arith;
       most = c.smaller-most.ensures;
       over = c.scan-i.ensures;
@@ -47,7 +48,9 @@ pub returns-then-i-most : goal.returns-then-i-most
 returns-then-i-most c = sym (search_for_found (scanned (goal.at.returns-then-i-most c).After-scan-i) (omega arith))
 
 pub returns-then-there-allowance : goal.returns-then-there-allowance
-returns-then-there-allowance c = sym (search_for-all (scanned (goal.at.returns-then-there-allowance c).After-scan-i) (omega arith) (omega arith))
+returns-then-there-allowance c =
+    sym (search_for-all (scanned (goal.at.returns-then-there-allowance c).After-scan-i) (omega arith) (omega arith))
 
 pub returns-else-there-allowance : goal.returns-else-there-allowance
-returns-else-there-allowance c = sym (search_for_used (scanned (goal.at.returns-else-there-allowance c).After-scan-i) (omega arith) (omega arith))
+returns-else-there-allowance c =
+    sym (search_for_used (scanned (goal.at.returns-else-there-allowance c).After-scan-i) (omega arith) (omega arith))

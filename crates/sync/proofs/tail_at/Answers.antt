@@ -24,7 +24,8 @@ pub overflow_sub-s : goal.overflow_sub-s
 overflow_sub-s c = omega (arith, room (goal.at.overflow_sub-s c).Else-not-in_range)
 
 pub returns-then-s-place-lt32 : goal.returns-then-s-place-lt32
-returns-then-s-place-lt32 c = sym (tail_of_short _ _ (room (goal.at.returns-then-s-place-lt32 c).Else-not-in_range) (omega (arith, room (goal.at.returns-then-s-place-lt32 c).Else-not-in_range)))
+returns-then-s-place-lt32 c = sym (tail_of_short _ _ (room (goal.at.returns-then-s-place-lt32 c).Else-not-in_range)
+    (omega (arith, room (goal.at.returns-then-s-place-lt32 c).Else-not-in_range)))
 
 pub overflow_add-place : goal.overflow_add-place
 overflow_add-place c = omega (arith, room (goal.at.overflow_add-place c).Else-not-in_range)

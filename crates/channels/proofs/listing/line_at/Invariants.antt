@@ -9,7 +9,8 @@ use Rattle.channels.specs.Listing.{lines_from}
 use Rattle.channels.proofs.listing.line_at.Given as goal
 
 abbrev pub invariant-loop-left : goal.invariant-loop-left
-invariant-loop-left l = (get_or (lines_from l.index l.left) l.channel End ≡ get_or (lines_from l.initial.index l.initial.left) l.k End) × (l.index + l.left ≤ 14)
+invariant-loop-left l = (get_or (lines_from l.index l.left) l.channel End
+    ≡ get_or (lines_from l.initial.index l.initial.left) l.k End) × (l.index + l.left ≤ 14)
 
 abbrev pub decreases-loop-left : goal.decreases-loop-left
 decreases-loop-left l = l.left

@@ -21,12 +21,14 @@ judged c = sym c.judge.ensures ∙ c.in-Accepted.is
 pub returns-then-size-gt-LONGEST : goal.returns-then-size-gt-LONGEST
 returns-then-size-gt-LONGEST c =
     let a = c.args in
-    sym (correcting_long a.f a.s.now a.out.now (judged (goal.at.returns-then-size-gt-LONGEST c).In-Accepted) c.if-size-gt-LONGEST.true)
+    sym (correcting_long a.f a.s.now a.out.now (judged (goal.at.returns-then-size-gt-LONGEST c).In-Accepted)
+    c.if-size-gt-LONGEST.true)
 
 pub returns-then-out-size : goal.returns-then-out-size
 returns-then-out-size c =
     let a = c.args in
-    sym (correcting_no_room a.f a.s.now a.out.now (judged (goal.at.returns-then-out-size c).In-Accepted) c.if-size-gt-LONGEST.false c.if-out-size.true)
+    sym (correcting_no_room a.f a.s.now a.out.now (judged (goal.at.returns-then-out-size c).In-Accepted)
+    c.if-size-gt-LONGEST.false c.if-out-size.true)
 
 pub put_corrected-requires : goal.put_corrected-requires
 put_corrected-requires c =
@@ -43,4 +45,5 @@ returns-else-out-size c =
     let a = c.args in
     ap (λ (m : List ℕ). record { answer = Written.Accepted (c.in-Accepted.size + 34); memory = m })
     c.put_corrected.ensures
-    ∙ sym (correcting_done a.f a.s.now a.out.now (judged (goal.at.returns-else-out-size c).In-Accepted) c.if-size-gt-LONGEST.false c.if-out-size.false)
+    ∙ sym (correcting_done a.f a.s.now a.out.now (judged (goal.at.returns-else-out-size c).In-Accepted)
+    c.if-size-gt-LONGEST.false c.if-out-size.false)

@@ -31,7 +31,8 @@ returns c =
           c.moved-t.result c.moved-p.ensures.result_value c.moved-q.ensures.result_value c.moved-r.ensures.result_value
           c.moved-t.ensures.result_value;
       upper_bound = four-lt c.moved-p.result c.moved-q.result c.moved-r.result c.moved-t.result
-          (omega (arith, c.moved-p.ensures.by_index 32 (omega arith))) (omega (arith, c.moved-q.ensures.by_index 32 (omega arith)))
+          (omega (arith, c.moved-p.ensures.by_index 32 (omega arith)))
+          (omega (arith, c.moved-q.ensures.by_index 32 (omega arith)))
           (omega (arith, c.moved-r.ensures.by_index 32 (omega arith)))
           (omega (arith, c.moved-t.ensures.by_index 32 (omega arith)));
     }

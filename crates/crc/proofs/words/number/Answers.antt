@@ -33,7 +33,12 @@ pub overflow_mul-w : goal.overflow_mul-w
 overflow_mul-w c = omega (arith, few (goal.at.overflow_mul-w c).In-loop-i)
 
 pub overflow_add-w-in-loop-i : goal.overflow_add-w-in-loop-i
-overflow_add-w-in-loop-i c = omega (arith, few (goal.at.overflow_add-w-in-loop-i c).In-loop-i, byte (goal.at.overflow_add-w-in-loop-i c).After-shared_slice_known-1)
+overflow_add-w-in-loop-i c = omega (
+  arith,
+  few (goal.at.overflow_add-w-in-loop-i c).In-loop-i,
+  byte
+      (goal.at.overflow_add-w-in-loop-i c).After-shared_slice_known-1,
+)
 
 pub loop-i-preserved : goal.loop-i-preserved
 loop-i-preserved c =
@@ -41,8 +46,10 @@ loop-i-preserved c =
     let at = c.loop-i in (
       omega arith,
       (
-        number_lt at.w (get_or a.s.now (a.at + at.i) 0) at.i at.invariant.1.0 (byte (goal.at.loop-i-preserved c).After-shared_slice_known-1),
-        adds_number a.s.now a.at at.i at.w (omega (arith, few (goal.at.loop-i-preserved c).In-loop-i)) (omega arith) (byte (goal.at.loop-i-preserved c).After-shared_slice_known-1)
+        number_lt at.w (get_or a.s.now (a.at + at.i) 0) at.i at.invariant.1.0
+            (byte (goal.at.loop-i-preserved c).After-shared_slice_known-1),
+        adds_number a.s.now a.at at.i at.w (omega (arith, few (goal.at.loop-i-preserved c).In-loop-i)) (omega arith)
+            (byte (goal.at.loop-i-preserved c).After-shared_slice_known-1)
             at.invariant.1.1,
       ),
     )

@@ -16,4 +16,8 @@ moved-low-requires c = record { w_bound = search rules; n_value = refl }
 pub returns : goal.returns
 returns c =
     let v = c.args.v in
-    let x = c.moved-low.result in record { result_value = onward_leaves v x (omega arith) c.moved-low.ensures.result_value; upper_bound = xor_lt 54 (v / 2 ^ 23) x (omega arith) (omega (arith, c.moved-low.ensures.by_index 23 (omega arith))) }
+    let x = c.moved-low.result in record {
+      result_value = onward_leaves v x (omega arith) c.moved-low.ensures.result_value;
+      upper_bound = xor_lt 54
+          (v / 2 ^ 23) x (omega arith) (omega (arith, c.moved-low.ensures.by_index 23 (omega arith)));
+    }

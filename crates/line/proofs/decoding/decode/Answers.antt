@@ -30,7 +30,15 @@ needed c = rw (c.per_byte.ensures, c.width.ensures)
 fits : (c : Else-s-start) → let a = c.args in
     (length a.s.now ≤ 1024) × (a.start + chips_in (code_of a.code) a.n ≤ 8 * length a.s.now)
 fits c =
-    ((in_buffer (record { before = c.before.before.before.before.before; type_inv = record { out = c.slice_known-1.given; s = c.shared_slice_known-1.given } })).small, omega (arith, (in_buffer (record { before = c.before.before.before.before.before; type_inv = record { out = c.slice_known-1.given; s = c.shared_slice_known-1.given } })).inside, needed (record { before = c.before.before; type_inv = record { out = c.slice_known-1.given; s = c.shared_slice_known-1.given } }), c.if-s-start.false))
+    let inside = in_buffer (record {
+      before = c.before.before.before.before.before;
+      type_inv = record { out = c.slice_known-1.given; s = c.shared_slice_known-1.given };
+    }) in
+    let asked = needed (record {
+      before = c.before.before;
+      type_inv = record { out = c.slice_known-1.given; s = c.shared_slice_known-1.given };
+    }) in
+    (inside.small, omega (arith, inside.inside, asked, c.if-s-start.false))
 
 words : (c : Else-s-start)
     → let a = c.args in
@@ -47,7 +55,11 @@ all_words c =
     let κ = code_of a.code in
     omega (
       arith,
-      words (record { before = c.before.before.before.before.before; type_inv = record { out = c.slice_known-1.given; s = c.shared_slice_known-1.given } }),
+      words (record {
+        before = c.before.before.before.before.before;
+        type_inv = record
+            { out = c.slice_known-1.given; s = c.shared_slice_known-1.given };
+      }),
       c.fill-good.ensures.0,
       c.if-good-words.false,
       good_run-le (value_at κ a.s.now a.start) (words_in κ a.n),
@@ -66,7 +78,8 @@ pub returns-then-n-gt-LIMIT : goal.returns-then-n-gt-LIMIT
 returns-then-n-gt-LIMIT c =
     let a = c.args in
     let more : 1024 * 8 < chips_in (code_of a.code) a.n = omega (arith, chips_in_ge (lawful a.code) a.n) in
-    sym (decoded_short (code_of a.code) a.s.now a.start a.n a.out.now (in_buffer (goal.at.returns-then-n-gt-LIMIT c).Else-not-in_range)
+    sym (decoded_short (code_of a.code) a.s.now a.start a.n a.out.now
+    (in_buffer (goal.at.returns-then-n-gt-LIMIT c).Else-not-in_range)
     (omega (arith, (in_buffer (goal.at.returns-then-n-gt-LIMIT c).Else-not-in_range).small)))
 
 pub overflow_mul-words : goal.overflow_mul-words
@@ -87,18 +100,28 @@ overflow_mul-words-2 c =
 
 pub returns-then-s-start : goal.returns-then-s-start
 returns-then-s-start c =
-    sym (decoded_short _ _ _ _ _ (in_buffer (goal.at.returns-then-s-start c).Else-not-in_range) (omega (arith, (in_buffer (goal.at.returns-then-s-start c).Else-not-in_range).inside, needed (goal.at.returns-then-s-start c).After-width)))
+    sym (decoded_short _ _ _ _ _ (in_buffer (goal.at.returns-then-s-start c).Else-not-in_range)
+    (omega (
+      arith,
+      (in_buffer (goal.at.returns-then-s-start c).Else-not-in_range).inside,
+      needed
+          (goal.at.returns-then-s-start c).After-width,
+    )))
 
 pub fill-good-requires : goal.fill-good-requires
 fill-good-requires c = omega (arith, fits (goal.at.fill-good-requires c).Else-s-start)
 
 pub returns-then-good-words : goal.returns-then-good-words
 returns-then-good-words c =
-    sym (decoded_bad _ _ _ _ _ (fits (goal.at.returns-then-good-words c).Else-s-start).0 (fits (goal.at.returns-then-good-words c).Else-s-start).1 c.fill-good.ensures.0 (omega (arith, words (goal.at.returns-then-good-words c).Else-s-start, c.if-good-words.true)))
+    sym (decoded_bad _ _ _ _ _ (fits (goal.at.returns-then-good-words c).Else-s-start).0
+    (fits (goal.at.returns-then-good-words c).Else-s-start).1 c.fill-good.ensures.0
+    (omega (arith, words (goal.at.returns-then-good-words c).Else-s-start, c.if-good-words.true)))
 
 pub returns-then-out-n : goal.returns-then-out-n
 returns-then-out-n c =
-    sym (decoded_no_room _ _ _ _ _ (fits (goal.at.returns-then-out-n c).Else-s-start).0 (fits (goal.at.returns-then-out-n c).Else-s-start).1 (all_words (goal.at.returns-then-out-n c).Else-good-words) c.if-out-n.true)
+    sym (decoded_no_room _ _ _ _ _ (fits (goal.at.returns-then-out-n c).Else-s-start).0
+    (fits (goal.at.returns-then-out-n c).Else-s-start).1 (all_words (goal.at.returns-then-out-n c).Else-good-words)
+    c.if-out-n.true)
 
 pub returns : goal.returns
 unfolding accepted
@@ -108,5 +131,6 @@ returns c =
     let bytes = filled.ensures.1 (filled.ensures.0 ∙ all_words (goal.at.returns c).Else-good-words) in
     let copied = c.copy.ensures ∙ ap (λ (p : List ℕ). p ++ drop a.n a.out.now) bytes in
     ap accepted copied
-    ∙ sym (decoded-accepted (code_of a.code) a.s.now a.start a.n a.out.now (fits (goal.at.returns c).Else-s-start).0 (fits (goal.at.returns c).Else-s-start).1
+    ∙ sym (decoded-accepted (code_of a.code) a.s.now a.start a.n a.out.now (fits (goal.at.returns c).Else-s-start).0
+    (fits (goal.at.returns c).Else-s-start).1
     (all_words (goal.at.returns c).Else-good-words) c.if-out-n.false)

@@ -58,7 +58,8 @@ word_value-requires c =
 pub returns-in_default : goal.returns-in_default
 returns-in_default c =
     let loop = c.loop-k in
-    sym (joining_bad loop.invariant c.loop-k-test.true (valueAt-read (goal.at.returns-in_default c).After-word_value ∙ c.in_default.is))
+    sym (joining_bad loop.invariant c.loop-k-test.true
+    (valueAt-read (goal.at.returns-in_default c).After-word_value ∙ c.in_default.is))
 
 pub join-x-requires : goal.join-x-requires
 join-x-requires c =

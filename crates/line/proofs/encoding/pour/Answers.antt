@@ -25,7 +25,8 @@ more c =
 -- at least eight chips are at hand
 ready : (c : Joined-count-lt8)
     → let a = c.args in
-    Held (sent_chip (code_of a.code) a.s.now) c.unit-unit.result c.if-count-lt8.held c.if-count-lt8.count c.if-count-lt8.i
+    Held (sent_chip (code_of a.code) a.s.now) c.unit-unit.result c.if-count-lt8.held c.if-count-lt8.count
+    c.if-count-lt8.i
     c.loop-j.j × ((8 ≤ c.if-count-lt8.count) × (c.if-count-lt8.count ≤ 23))
 ready c =
     let inv = c.loop-j.invariant in
@@ -33,7 +34,11 @@ ready c =
       | then-count-lt8 w ↦ (
         rw (w.held-is ∙ w.join-held.ensures, w.count-is, w.i-is)
             (held_more inv.at_hand (rw c.unit-unit.ensures w.coded_byte.ensures)),
-        (omega (arith, w.count-is, inv.source.unit_ge), omega (arith, w.count-is, inv.source.unit_le, w.if-count-lt8.true)),
+        (
+          omega (arith, w.count-is, inv.source.unit_ge),
+          omega
+              (arith, w.count-is, inv.source.unit_le, w.if-count-lt8.true),
+        ),
       )
       | else-count-lt8 w ↦ (
         rw (w.held-is, w.count-is, w.i-is) inv.at_hand,
@@ -61,7 +66,8 @@ join-held-requires c =
     omega (
       arith,
       source.unit_le,
-      held-lt source.bit (more (goal.at.join-held-requires c).After-coded_byte) (omega (arith, source.unit_le, c.if-count-lt8.true)),
+      held-lt source.bit (more (goal.at.join-held-requires c).After-coded_byte)
+          (omega (arith, source.unit_le, c.if-count-lt8.true)),
     )
 
 pub overflow_add-count : goal.overflow_add-count
@@ -92,7 +98,8 @@ low-held-requires c = omega (arith, (ready (goal.at.low-held-requires c).Joined-
 pub loop-j-preserved : goal.loop-j-preserved
 loop-j-preserved c =
     rw (c.low-held.ensures, c.part.ensures)
-    (pouring_step c.loop-j.invariant (ready (goal.at.loop-j-preserved c).Joined-count-lt8) c.loop-j-test.true c.requires.1)
+    (pouring_step c.loop-j.invariant (ready (goal.at.loop-j-preserved c).Joined-count-lt8) c.loop-j-test.true
+    c.requires.1)
 
 pub returns : goal.returns
 unfolding encoding packed

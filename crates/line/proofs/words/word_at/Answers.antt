@@ -24,8 +24,11 @@ passed c =
     let told : c.word_value.result ≡ word_value κ (word_at a.s.now a.at κ.chips)
     = c.word_value.ensures
     ∙ ap (word_value κ) (c.narrow.ensures ∙ ap (word_at a.s.now a.at) c.width-w.ensures) in
-    word_read_fits κ a.s.now a.at (in_buffer (record { before = c.before.before.before.before.before; type_inv = record { s = c.shared_slice_known-1.given } }))
-    (omega (arith, in_buffer (record { before = c.before.before.before.before.before; type_inv = record { s = c.shared_slice_known-1.given } }), c.width-w.ensures, c.if-s-at.false))
+    let inside = in_buffer (record {
+      before = c.before.before.before.before.before;
+      type_inv = record { s = c.shared_slice_known-1.given };
+    }) in
+    word_read_fits κ a.s.now a.at inside (omega (arith, inside, c.width-w.ensures, c.if-s-at.false))
     ∙ ap word_for (sym told)
 
 pub returns-then-not-in_range : goal.returns-then-not-in_range

@@ -6,7 +6,12 @@ use Rattle.locating.proofs.searching.locate.Goals as goal
 pub reduce-at-requires : goal.reduce-at-requires
 reduce-at-requires c =
     let s = c.args.s.now in
-    record { tables_ok = c.requires.tables_ok; s_len = (c.requires.s_len, no_slots s); from_bound = (omega arith, first-reducing s) }
+    record {
+      tables_ok = c.requires.tables_ok;
+      s_len = (c.requires.s_len, no_slots s);
+      from_bound =
+          (omega arith, first-reducing s);
+    }
 
 pub loop-at-init : goal.loop-at-init
 loop-at-init c = search_start c.reduce-at.ensures

@@ -29,7 +29,8 @@ returns-then-p-size c =
 pub returns-then-s-size : goal.returns-then-s-size
 returns-then-s-size c =
     let a = c.args in
-    sym (proposal_too_short a.f a.p.now a.s.now (judged (goal.at.returns-then-s-size c).In-Accepted) c.if-p-size.false c.if-s-size.true)
+    sym (proposal_too_short a.f a.p.now a.s.now (judged (goal.at.returns-then-s-size c).In-Accepted) c.if-p-size.false
+    c.if-s-size.true)
 
 pub compare-requires : goal.compare-requires
 compare-requires c =
@@ -46,4 +47,5 @@ pub returns-else-s-size : goal.returns-else-s-size
 returns-else-s-size c =
     let a = c.args in
     c.compare.ensures
-    ∙ sym (proposal_compared a.f a.p.now a.s.now (judged (goal.at.returns-else-s-size c).In-Accepted) c.if-p-size.false c.if-s-size.false)
+    ∙ sym (proposal_compared a.f a.p.now a.s.now (judged (goal.at.returns-else-s-size c).In-Accepted) c.if-p-size.false
+    c.if-s-size.false)

@@ -23,7 +23,8 @@ mend_sixteen-requires c =
 
 pub returns-then-mend_sixteen : goal.returns-then-mend_sixteen
 returns-then-mend_sixteen c =
-    proposal_put (word (goal.at.returns-then-mend_sixteen c).In-Accepted) 16 (rw c.if-mend_sixteen.true at c.mend_sixteen.ensures.1)
+    proposal_put (word (goal.at.returns-then-mend_sixteen c).In-Accepted) 16
+    (rw c.if-mend_sixteen.true at c.mend_sixteen.ensures.1)
 
 pub overflow_sub-n : goal.overflow_sub-n
 overflow_sub-n c = omega (arith, (word (goal.at.overflow_sub-n c).In-Accepted).is)

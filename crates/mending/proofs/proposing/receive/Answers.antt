@@ -33,7 +33,8 @@ returns-then-s-size c =
 pub returns-then-out-size : goal.returns-then-out-size
 returns-then-out-size c =
     let a = c.args in
-    sym (proposing_no_room 0 a.f a.s.now a.out.now (judged (goal.at.returns-then-out-size c).In-Accepted) c.if-s-size.false c.if-out-size.true)
+    sym (proposing_no_room 0 a.f a.s.now a.out.now (judged (goal.at.returns-then-out-size c).In-Accepted)
+    c.if-s-size.false c.if-out-size.true)
 
 pub returns-in-Refused : goal.returns-in-Refused
 returns-in-Refused c =
@@ -47,5 +48,7 @@ returns-else-out-size c =
     let a = c.args in
     let word = received c.in-Accepted.size a.s.now in
     ap (λ (m : List ℕ). record { answer = Written.Accepted (c.in-Accepted.size + 32); memory = m })
-    (c.put_received.ensures ∙ ap (λ (w : List ℕ). w ++ drop (c.in-Accepted.size + 32) a.out.now) (sym (nearest_zero word)))
-    ∙ sym (proposing_done 0 a.f a.s.now a.out.now (judged (goal.at.returns-else-out-size c).In-Accepted) c.if-s-size.false c.if-out-size.false)
+    (c.put_received.ensures
+    ∙ ap (λ (w : List ℕ). w ++ drop (c.in-Accepted.size + 32) a.out.now) (sym (nearest_zero word)))
+    ∙ sym (proposing_done 0 a.f a.s.now a.out.now (judged (goal.at.returns-else-out-size c).In-Accepted)
+    c.if-s-size.false c.if-out-size.false)

@@ -20,7 +20,8 @@ returns-then-s-lt1 c = let a = c.args in sym (size_in-nil a.f a.s.now c.if-s-lt1
 pub returns-then-size-gt-LONGEST : goal.returns-then-size-gt-LONGEST
 returns-then-size-gt-LONGEST c =
     let a = c.args in
-    sym (size_in_long a.f a.s.now c.if-s-lt1.false (sized (goal.at.returns-then-size-gt-LONGEST c).In-Accepted) c.if-size-gt-LONGEST.true)
+    sym (size_in_long a.f a.s.now c.if-s-lt1.false (sized (goal.at.returns-then-size-gt-LONGEST c).In-Accepted)
+    c.if-size-gt-LONGEST.true)
 
 pub returns-in-Refused : goal.returns-in-Refused
 returns-in-Refused c =
@@ -32,4 +33,5 @@ returns-in-Refused c =
 pub returns-else-size-gt-LONGEST : goal.returns-else-size-gt-LONGEST
 returns-else-size-gt-LONGEST c =
     let a = c.args in
-    sym (size_in_is a.f a.s.now c.if-s-lt1.false (sized (goal.at.returns-else-size-gt-LONGEST c).In-Accepted) c.if-size-gt-LONGEST.false)
+    sym (size_in_is a.f a.s.now c.if-s-lt1.false (sized (goal.at.returns-else-size-gt-LONGEST c).In-Accepted)
+    c.if-size-gt-LONGEST.false)

@@ -10,7 +10,11 @@ pub ratio-requires : goal.ratio-requires
 ratio-requires c =
     let a = c.args in
     let some = c.requires.s_len.1.1.0 in
-    record { tables_ok = c.requires.tables_ok; b_nonzero = term_positive a.y (1232 * a.place % 255) some (omega arith) c.times_power-whole.ensures }
+    record {
+      tables_ok = c.requires.tables_ok;
+      b_nonzero = term_positive a.y (1232 * a.place % 255) some (omega arith)
+          c.times_power-whole.ensures;
+    }
 
 pub returns : goal.returns
 returns c =

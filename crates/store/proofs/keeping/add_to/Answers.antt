@@ -21,7 +21,8 @@ seek-place-requires c =
 pub returns-then-place-ge64 : goal.returns-then-place-ge64
 returns-then-place-ge64 c =
     let a = c.args in
-    add_full (opened (goal.at.returns-then-place-ge64 c).After-slice_known-1) a.address _ c.seek-place.ensures a.mode a.format
+    add_full (opened (goal.at.returns-then-place-ge64 c).After-slice_known-1) a.address _ c.seek-place.ensures a.mode
+    a.format
     (omega (arith, c.if-place-ge64.true))
 
 pub known-own-requires : goal.known-own-requires
@@ -45,7 +46,8 @@ overflow_add-result c =
 pub returns-then-place-count : goal.returns-then-place-count
 returns-then-place-count c =
     let a = c.args in
-    add_put (opened (goal.at.returns-then-place-count c).After-slice_known-1) a.address _ c.seek-place.ensures a.mode a.format
+    add_put (opened (goal.at.returns-then-place-count c).After-slice_known-1) a.address _ c.seek-place.ensures a.mode
+    a.format
     (omega (arith, c.if-place-ge64.false)) c.known-own.ensures c.set_to.ensures
     c.keep.ensures (omega (arith, c.if-place-count.true))
 

@@ -21,7 +21,8 @@ seek-place-requires c =
 pub returns-then-count-place : goal.returns-then-count-place
 returns-then-count-place c =
     let a = c.args in
-    hear_none (opened (goal.at.returns-then-count-place c).After-slice_known-1) a.address _ c.seek-place.ensures a.number (omega (arith, c.if-count-place.true))
+    hear_none (opened (goal.at.returns-then-count-place c).After-slice_known-1) a.address _ c.seek-place.ensures
+    a.number (omega (arith, c.if-count-place.true))
 
 pub overflow_mul-place : goal.overflow_mul-place
 overflow_mul-place c =
@@ -54,5 +55,6 @@ overflow_add-result c =
 pub returns : goal.returns
 returns c =
     let a = c.args in
-    hear_held (opened (goal.at.returns c).After-slice_known-1) a.address _ c.seek-place.ensures a.number (omega (arith, c.if-count-place.false))
+    hear_held (opened (goal.at.returns c).After-slice_known-1) a.address _ c.seek-place.ensures a.number
+    (omega (arith, c.if-count-place.false))
     c.meter_at-own.ensures c.hear.ensures c.keep.ensures

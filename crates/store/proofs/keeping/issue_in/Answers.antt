@@ -20,7 +20,8 @@ seek-place-requires c =
 
 pub returns-then-count-place : goal.returns-then-count-place
 returns-then-count-place c =
-    issue_none (opened (goal.at.returns-then-count-place c).After-slice_known-1) c.args.address _ c.seek-place.ensures (omega (arith, c.if-count-place.true))
+    issue_none (opened (goal.at.returns-then-count-place c).After-slice_known-1) c.args.address _ c.seek-place.ensures
+    (omega (arith, c.if-count-place.true))
 
 pub overflow_mul-place : goal.overflow_mul-place
 overflow_mul-place c =
@@ -55,5 +56,6 @@ keep-requires c =
 pub returns : goal.returns
 returns c =
     issue_held (opened (goal.at.returns c).After-slice_known-1) c.args.address _ c.seek-place.ensures
-    (omega (arith, c.if-count-place.false)) c.meter_at-own.ensures c.if-own.false (omega (arith, c.if-own-ge-LAST.false))
+    (omega (arith, c.if-count-place.false)) c.meter_at-own.ensures c.if-own.false
+    (omega (arith, c.if-own-ge-LAST.false))
     c.numbered.ensures c.keep.ensures

@@ -20,13 +20,16 @@ seek-place-requires c =
 
 pub returns-then-count-place : goal.returns-then-count-place
 returns-then-count-place c =
-    look_none (opened (goal.at.returns-then-count-place c).After-shared_slice_known-1) c.args.address _ c.seek-place.ensures (omega (arith, c.if-count-place.true))
+    look_none (opened (goal.at.returns-then-count-place c).After-shared_slice_known-1) c.args.address _
+    c.seek-place.ensures (omega (arith, c.if-count-place.true))
 
 pub overflow_mul-place : goal.overflow_mul-place
-overflow_mul-place c = omega (arith, (opened (goal.at.overflow_mul-place c).After-shared_slice_known-1).few, c.if-count-place.false)
+overflow_mul-place c =
+    omega (arith, (opened (goal.at.overflow_mul-place c).After-shared_slice_known-1).few, c.if-count-place.false)
 
 pub overflow_add-place : goal.overflow_add-place
-overflow_add-place c = omega (arith, (opened (goal.at.overflow_add-place c).After-shared_slice_known-1).few, c.if-count-place.false)
+overflow_add-place c =
+    omega (arith, (opened (goal.at.overflow_add-place c).After-shared_slice_known-1).few, c.if-count-place.false)
 
 pub meter_at-requires : goal.meter_at-requires
 meter_at-requires c =

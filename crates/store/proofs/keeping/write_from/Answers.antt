@@ -20,7 +20,8 @@ overflow_add-size c = omega (arith, (opened (goal.at.overflow_add-size c).After-
 
 pub returns-then-out-size : goal.returns-then-out-size
 returns-then-out-size c =
-    write_short (opened (goal.at.returns-then-out-size c).After-shared_slice_known-1) c.args.out.now (omega (arith, c.if-out-size.true))
+    write_short (opened (goal.at.returns-then-out-size c).After-shared_slice_known-1) c.args.out.now
+    (omega (arith, c.if-out-size.true))
 
 pub copy_part-requires : goal.copy_part-requires
 copy_part-requires c =
@@ -29,5 +30,6 @@ copy_part-requires c =
 
 pub returns : goal.returns
 returns c =
-    write_all (opened (goal.at.returns c).After-shared_slice_known-1) c.args.out.now (omega (arith, c.if-out-size.false))
+    write_all (opened (goal.at.returns c).After-shared_slice_known-1) c.args.out.now
+    (omega (arith, c.if-out-size.false))
     c.copy_part.ensures

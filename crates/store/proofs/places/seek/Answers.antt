@@ -48,7 +48,8 @@ overflow_sub-result c = omega (arith, c.loop-next-test.true)
 pub returns-then-key_at-address : goal.returns-then-key_at-address
 returns-then-key_at-address c =
     let a = c.args in
-    stands_at a.s.now a.first a.count _ a.address c.requires.1.1.1.1.0 (low (goal.at.returns-then-key_at-address c).In-loop-next)
+    stands_at a.s.now a.first a.count _ a.address c.requires.1.1.1.1.0
+    (low (goal.at.returns-then-key_at-address c).In-loop-next)
     (sym c.key_at.ensures ∙ c.if-key_at-address.true)
 
 pub overflow_sub-next-in-loop-next : goal.overflow_sub-next-in-loop-next

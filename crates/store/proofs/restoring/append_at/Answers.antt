@@ -15,7 +15,9 @@ returns c =
     let k = c.args.k in
     let file = c.args.file.now in
     let at = c.args.at in
-    sets_then (sixteen_from file at) (get_or file (at + 16) 0 ∷ get_or file (at + 17) 0 ∷ get_or file (at + 18) 0 ∷ 1 ∷ []) s k
+    sets_then (sixteen_from file at)
+    (get_or file (at + 16) 0 ∷ get_or file (at + 17) 0 ∷ get_or file (at + 18) 0 ∷ 1 ∷ []) s k
     (four_runs s k file at c.put_same.ensures c.put_same-2.ensures c.put_same-3.ensures
     c.put_same-4.ensures) c.put_four.ensures
-    ∙ ap (sets s k) (newcomer_bytes file at (λ j. omega (arith, c.shared_slice_known-1.given j)) c.requires.1.0 c.requires.1.1)
+    ∙ ap (sets s k) (newcomer_bytes file at (λ j. omega (arith, c.shared_slice_known-1.given j)) c.requires.1.0
+    c.requires.1.1)

@@ -30,7 +30,19 @@ place-low :
     → get_or c.args.places.now c.loop-i.i 0 < 64
 place-low c =
     let i = c.loop-i.i in
-    omega (arith, c.requires.1.1.1.1.1.1 i (omega arith), place-lt (knows (record { before = c.before.before.before; type_inv = record { places = c.shared_slice_known-2-1.given; file = c.shared_slice_known-1.given; store = c.slice_known-1.given } })) i (omega arith))
+    omega (
+      arith,
+      c.requires.1.1.1.1.1.1 i (omega arith),
+      place-lt
+          (knows (record {
+            before = c.before.before.before;
+            type_inv = record {
+              places = c.shared_slice_known-2-1.given;
+              file = c.shared_slice_known-1.given;
+              store = c.slice_known-1.given;
+            };
+          })) i (omega arith),
+    )
 
 -- as long as it was
 long :
@@ -41,7 +53,14 @@ long c =
     let i = c.loop-i.i in
     ap length c.loop-i.invariant.1
     ∙ length-merging a.store.now (restored_to a.store.now a.count a.file.now a.first i)
-    (room_at (knows (record { before = c.before.before; type_inv = record { places = c.shared_slice_known-2-1.given; file = c.shared_slice_known-1.given; store = c.slice_known-1.given } })) i c.loop-i.invariant.0)
+    (room_at (knows (record {
+      before = c.before.before;
+      type_inv = record {
+        places = c.shared_slice_known-2-1.given;
+        file = c.shared_slice_known-1.given;
+        store = c.slice_known-1.given;
+      };
+    })) i c.loop-i.invariant.0)
 
 pub loop-i-init : goal.loop-i-init
 loop-i-init c =
@@ -54,19 +73,33 @@ loop-i-init c =
 pub merge_at-requires : goal.merge_at-requires
 merge_at-requires c =
     let start = (goal.at.merge_at-requires c).Start in
-    let pre = start.requires.1 in
-    (omega (arith, place-low (goal.at.merge_at-requires c).In-loop-i, long (goal.at.merge_at-requires c).At-loop-i, pre.1.1.1.0), omega (arith, pre.0.room))
+    let pre = start.requires.1 in (
+      omega (
+        arith,
+        place-low (goal.at.merge_at-requires c).In-loop-i,
+        long (goal.at.merge_at-requires c).At-loop-i,
+        pre.1.1.1.0,
+      ),
+      omega (arith, pre.0.room),
+    )
 
 pub overflow_mul-place-else-place-count : goal.overflow_mul-place-else-place-count
-overflow_mul-place-else-place-count c = omega (arith, place-low (goal.at.overflow_mul-place-else-place-count c).In-loop-i)
+overflow_mul-place-else-place-count c =
+    omega (arith, place-low (goal.at.overflow_mul-place-else-place-count c).In-loop-i)
 
 pub overflow_add-place-else-place-count : goal.overflow_add-place-else-place-count
-overflow_add-place-else-place-count c = omega (arith, place-low (goal.at.overflow_add-place-else-place-count c).In-loop-i)
+overflow_add-place-else-place-count c =
+    omega (arith, place-low (goal.at.overflow_add-place-else-place-count c).In-loop-i)
 
 pub append_at-requires : goal.append_at-requires
 append_at-requires c =
     let start = (goal.at.append_at-requires c).Start in (
-      omega (arith, place-low (goal.at.append_at-requires c).In-loop-i, long (goal.at.append_at-requires c).At-loop-i, start.requires.1.1.1.1.0),
+      omega (
+        arith,
+        place-low (goal.at.append_at-requires c).In-loop-i,
+        long (goal.at.append_at-requires c).At-loop-i,
+        start.requires.1.1.1.1.0,
+      ),
       (
         omega (arith, start.requires.1.0.room),
         right_at (knows (goal.at.append_at-requires c).After-shared_slice_known-2-1) c.loop-i.i (omega arith),

@@ -29,10 +29,22 @@ own c = kept_from (λ j. omega (arith, c.slice_known-1.given j)) (opened c)
 theirs :
     (c : After-first_of-first)
     → let a = c.args in MetersFrom c.first_of-first.result a.n a.file.now
-theirs c = rw c.first_of-first.ensures (backup (record { before = c.before.before; type_inv = record { file = c.shared_slice_known-2-1.given; table = c.shared_slice_known-1.given; store = c.slice_known-1.given } })).from
+theirs c = rw c.first_of-first.ensures (backup (record {
+  before = c.before.before;
+  type_inv = record {
+    file =
+        c.shared_slice_known-2-1.given;
+    table = c.shared_slice_known-1.given;
+    store = c.slice_known-1.given;
+  };
+})).from
 
 pub first_of-first-requires : goal.first_of-first-requires
-first_of-first-requires c = omega (arith, (backup (goal.at.first_of-first-requires c).After-shared_slice_known-2-1).some, (backup (goal.at.first_of-first-requires c).After-shared_slice_known-2-1).from.room)
+first_of-first-requires c = omega (
+  arith,
+  (backup (goal.at.first_of-first-requires c).After-shared_slice_known-2-1).some,
+  (backup (goal.at.first_of-first-requires c).After-shared_slice_known-2-1).from.room,
+)
 
 pub places_in-total-requires : goal.places_in-total-requires
 places_in-total-requires c =
@@ -41,7 +53,11 @@ places_in-total-requires c =
       (
         theirs (goal.at.places_in-total-requires c).After-first_of-first,
         (
-          omega (arith, c.first_of-first.ensures, (backup (goal.at.places_in-total-requires c).After-shared_slice_known-2-1).low),
+          omega (
+            arith,
+            c.first_of-first.ensures,
+            (backup (goal.at.places_in-total-requires c).After-shared_slice_known-2-1).low,
+          ),
           (omega (arith, (theirs (goal.at.places_in-total-requires c).After-first_of-first).few), (pre.1.0, pre.1.1.0)),
         ),
       ),
@@ -50,7 +66,9 @@ places_in-total-requires c =
 pub returns-then-total-gt64 : goal.returns-then-total-gt64
 returns-then-total-gt64 c =
     let file = c.args.file.now in
-    restore_full (opened (goal.at.returns-then-total-gt64 c).After-shared_slice_known-2-1) file (backup (goal.at.returns-then-total-gt64 c).After-shared_slice_known-2-1) c.first_of-first.ensures c.places_in-total.ensures.0
+    restore_full (opened (goal.at.returns-then-total-gt64 c).After-shared_slice_known-2-1) file
+    (backup (goal.at.returns-then-total-gt64 c).After-shared_slice_known-2-1) c.first_of-first.ensures
+    c.places_in-total.ensures.0
     c.if-total-gt64.true
 
 pub merge_all-requires : goal.merge_all-requires
@@ -60,10 +78,17 @@ merge_all-requires c =
       (
         theirs (goal.at.merge_all-requires c).After-first_of-first,
         (
-          omega (arith, c.first_of-first.ensures, (backup (goal.at.merge_all-requires c).After-shared_slice_known-2-1).low),
+          omega (
+            arith,
+            c.first_of-first.ensures,
+            (backup (goal.at.merge_all-requires c).After-shared_slice_known-2-1).low,
+          ),
           (
             omega (arith, (theirs (goal.at.merge_all-requires c).After-first_of-first).few),
-            ((opened (goal.at.merge_all-requires c).After-shared_slice_known-2-1).room, (omega (arith, total.0, c.if-total-gt64.false), total.1)),
+            (
+              (opened (goal.at.merge_all-requires c).After-shared_slice_known-2-1).room,
+              (omega (arith, total.0, c.if-total-gt64.false), total.1),
+            ),
           ),
         ),
       ),
@@ -79,11 +104,17 @@ put_number-requires c =
 
 pub bounds-store-7 : goal.bounds-store-7
 bounds-store-7 c =
-    omega (arith, c.put_number.auto.out, c.merge_all.auto.store, (opened (goal.at.bounds-store-7 c).After-shared_slice_known-2-1).room)
+    omega (
+      arith,
+      c.put_number.auto.out,
+      c.merge_all.auto.store,
+      (opened (goal.at.bounds-store-7 c).After-shared_slice_known-2-1).room,
+    )
 
 pub returns : goal.returns
 returns c =
     let file = c.args.file.now in
-    restore_all (opened (goal.at.returns c).After-shared_slice_known-2-1) file (backup (goal.at.returns c).After-shared_slice_known-2-1) c.first_of-first.ensures c.places_in-total.ensures.0
+    restore_all (opened (goal.at.returns c).After-shared_slice_known-2-1) file
+    (backup (goal.at.returns c).After-shared_slice_known-2-1) c.first_of-first.ensures c.places_in-total.ensures.0
     c.if-total-gt64.false c.merge_all.ensures
     (c.put_number.ensures ∙ rw c.allowance_of.ensures)
