@@ -4,7 +4,7 @@
 --     name_at_append         the name that is read where it was sent
 --     bytes_from n s k, take-drop    n bytes of s from place k on, one by one
 --     name_bytes_name_at      the bytes of a name that was read are those that stood there
---     length_name_of, get_d_name_of    M and A of a content are eight bytes, from its byte 1 on
+--     length_name_of, get_or_name_of    M and A of a content are eight bytes, from its byte 1 on
 --     same_bytes_self, same_bytes_equal    the same bytes are those that are equal
 --     same_bytes_next, same_bytes_differ, same_bytes_end    at a place: two bytes that agree, two that differ, none
 --                                                           left
@@ -54,8 +54,8 @@ name_bytes_name_at s bytes k h =
 pub length_name_of : (s : List ℕ) → 8 < length s → length (name_of s) ≡ 8
 length_name_of s h = simp (length-take, length-drop) (omega arith)
 
-pub get_d_name_of : (s : List ℕ) (i : ℕ) → i < 8 → get_or (name_of s) i 0 ≡ get_or s (i + 1) 0
-get_d_name_of s i h =
+pub get_or_name_of : (s : List ℕ) (i : ℕ) → i < 8 → get_or (name_of s) i 0 ≡ get_or s (i + 1) 0
+get_or_name_of s i h =
     let e : 1 + i ≡ i + 1 = omega arith in
     get_or-take 8 (drop 1 s) i 0 h ∙ get_or-drop 1 s i 0 ∙ ap (λ (k : ℕ). get_or s k 0) e
 

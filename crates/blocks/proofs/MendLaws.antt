@@ -23,16 +23,16 @@ use Rattle.crc.proofs.CheckLaws.{check_of_changed}
 use Rattle.blocks.specs.declared.Checks.TheVariants.{Right}
 use Rattle.blocks.specs.Spans.{sealed, framed, payload, first_wrong, size_of}
 use Rattle.blocks.specs.Places.{place_in, check_in, check_at, updated_at, mended}
-use Rattle.blocks.proofs.SealLaws.{length_sealed, sealed-append, sealed_stores, get_d_sealed_high, get_d_sealed_low}
+use Rattle.blocks.proofs.SealLaws.{length_sealed, sealed-append, sealed_stores, get_or_sealed_high, get_or_sealed_low}
 use Rattle.blocks.proofs.SpanLaws.{total, length-payload, framed-payload}
 
 -- one block
 module _ (q t : List ℕ) (j v : ℕ) (there : j < length q) where
   check_at_sealed : check_at (sealed q ++ t) (length q) ≡ check_of q
-  check_at_sealed = rw (get_d_sealed_high q t refl, get_d_sealed_low q t refl) (omega arith)
+  check_at_sealed = rw (get_or_sealed_high q t refl, get_or_sealed_low q t refl) (omega arith)
 
-  get_d_sealed : get_or (sealed q ++ t) j 0 ≡ get_or q j 0
-  get_d_sealed = rw (sealed-append q t) (get_or-append q (check_of q / 256 ∷ check_of q % 256 ∷ t) 0 j there)
+  get_or_sealed : get_or (sealed q ++ t) j 0 ≡ get_or q j 0
+  get_or_sealed = rw (sealed-append q t) (get_or-append q (check_of q / 256 ∷ check_of q % 256 ∷ t) 0 j there)
 
   check_of-set : check_of (set q j v) ≡ updated_check (check_of q) (get_or q j 0) v (length q - 1 - j)
   check_of-set =
@@ -42,7 +42,7 @@ module _ (q t : List ℕ) (j v : ℕ) (there : j < length q) where
 
   updated_at_sealed : updated_at (sealed q ++ t) j (length q) v ≡ check_of (set q j v)
   unfolding updated_at
-  updated_at_sealed = rw (check_at_sealed, get_d_sealed, check_of-set)
+  updated_at_sealed = rw (check_at_sealed, get_or_sealed, check_of-set)
 
   set_sealed : set (sealed q ++ t) j v ≡ set q j v ++ check_of q / 256 ∷ check_of q % 256 ∷ t
   set_sealed = rw (sealed-append q t) (set-append_left q (check_of q / 256 ∷ check_of q % 256 ∷ t) j v there)
@@ -116,14 +116,14 @@ mended_framed b ks s j v fits right there =
 
 -- three stores: what stands at the first place, and at the second
 module _ (s : List ℕ) {p q : ℕ} (v high low : ℕ) (before : p < q) (inside : q + 2 ≤ length s) where
-  get_d_stores_byte : get_or (set (set (set s p v) q high) (q + 1) low) p 0 ≡ v
-  get_d_stores_byte =
+  get_or_stores_byte : get_or (set (set (set s p v) q high) (q + 1) low) p 0 ≡ v
+  get_or_stores_byte =
       let not-high : p ≡ q → ⊥ = λ e. omega arith in
       let not_low : p ≡ q + 1 → ⊥ = λ e. omega arith in
       rw (get_or-set_other, get_or-set_other) (get_or-set_same s p v 0 (omega arith))
 
-  get_d_stores_high : get_or (set (set (set s p v) q high) (q + 1) low) q 0 ≡ high
-  get_d_stores_high =
+  get_or_stores_high : get_or (set (set (set s p v) q high) (q + 1) low) q 0 ≡ high
+  get_or_stores_high =
       let not_low : q ≡ q + 1 → ⊥ = λ e. omega arith in
       rw get_or-set_other (get_or-set_same (set s p v) q high 0 (simp length-set (omega arith)))
 
@@ -141,8 +141,8 @@ mended_touches s p q v before inside =
     let u = updated_at s p q v in
     record {
       size = simp length-set;
-      byte = get_d_stores_byte s v (u / 256) (u % 256) before inside;
-      high = get_d_stores_high s v (u / 256) (u % 256) before inside;
+      byte = get_or_stores_byte s v (u / 256) (u % 256) before inside;
+      high = get_or_stores_high s v (u / 256) (u % 256) before inside;
       low = get_or-set_same (set (set s p v) q (u / 256)) (q + 1) (u % 256) 0 (simp length-set (omega arith));
       others = λ i np nq nl. rw (get_or-set_other, get_or-set_other, get_or-set_other);
     }

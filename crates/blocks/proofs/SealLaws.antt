@@ -45,11 +45,11 @@ module _ (q t : List ℕ) {k : ℕ} (e : length q ≡ k) where
   pub drop_sealed : drop (k + 2) (sealed q ++ t) ≡ t
   drop_sealed = drop_at (sealed q) t (k + 2) (length_sealed q ∙ ap (λ (n : ℕ). n + 2) e)
 
-  pub get_d_sealed_high : get_or (sealed q ++ t) k 0 ≡ check_of q / 256
-  get_d_sealed_high = rw (sealed-append q t) (get_or_at q (check_of q / 256) (check_of q % 256 ∷ t) 0 k e)
+  pub get_or_sealed_high : get_or (sealed q ++ t) k 0 ≡ check_of q / 256
+  get_or_sealed_high = rw (sealed-append q t) (get_or_at q (check_of q / 256) (check_of q % 256 ∷ t) 0 k e)
 
-  pub get_d_sealed_low : get_or (sealed q ++ t) (k + 1) 0 ≡ check_of q % 256
-  get_d_sealed_low =
+  pub get_or_sealed_low : get_or (sealed q ++ t) (k + 1) 0 ≡ check_of q % 256
+  get_or_sealed_low =
       rw (sealed-append q t, ← append_assoc q (check_of q / 256 ∷ []) (check_of q % 256 ∷ t))
       (get_or_at (q ++ check_of q / 256 ∷ []) (check_of q % 256) t 0 (k + 1)
       (length-append q (check_of q / 256 ∷ []) ∙ ap (λ (n : ℕ). n + 1) e))
@@ -59,7 +59,7 @@ module _ (q t : List ℕ) {k : ℕ} (e : length q ≡ k) where
   block_ok_sealed =
       let high = check_of q / 256 in
       let low = check_of q % 256 in
-      rw (take_sealed, get_d_sealed_high, get_d_sealed_low, eq-eqb high high refl, eq-eqb low low refl)
+      rw (take_sealed, get_or_sealed_high, get_or_sealed_low, eq-eqb high high refl, eq-eqb low low refl)
 
 module _ (k : ℕ) (s : List ℕ) (ok : block_ok k s ≡ true) where
   pub block_ok_high : get_or s k 0 ≡ check_of (take k s) / 256

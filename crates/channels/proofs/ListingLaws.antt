@@ -1,9 +1,9 @@
 -- What the list of a band holds, one line at a time (document 01, "Mode N channels").
 --     band_of_one, band_of_two, band_of_other    the band of an input, by the input's length
 --     rows_of_le                               a band's indices lie below 14
---     get_d_lines_from_lt                       a channel of the first index is its own line
---     get_d_lines_from_le                       behind them the list goes on with the next index
---     get_d_lines_from_nil                      no indices, no lines
+--     get_or_lines_from-lt                       a channel of the first index is its own line
+--     get_or_lines_from-le                       behind them the list goes on with the next index
+--     get_or_lines_from-nil                      no indices, no lines
 -- Assumes nothing.
 use mathlib.Core.Path.{◌≡◌, refl, ap, ◌∙◌}
 use mathlib.Core.Bool.{cond}
@@ -57,43 +57,43 @@ length-channels_up_to i (suc n) =
     let ih : length (channels_up_to i n) ≡ n = length-channels_up_to i n in
     simp length-append (omega arith)
 
-get_d_channels_up_to : (i n c : ℕ) → c < n → get_or (channels_up_to i n) c End ≡ Channel i c (250 * quarters_of i c)
+get_or-channels_up_to : (i n c : ℕ) → c < n → get_or (channels_up_to i n) c End ≡ Channel i c (250 * quarters_of i c)
 unfolding channels_up_to
-get_d_channels_up_to i zero c h = absurd (not-suc-le-zero h)
-get_d_channels_up_to i (suc n) c h =
+get_or-channels_up_to i zero c h = absurd (not-suc-le-zero h)
+get_or-channels_up_to i (suc n) c h =
     let s = channels_up_to i n in
     let x = Channel i n (250 * quarters_of i n) in
     let size : length s ≡ n = length-channels_up_to i n in
     ⊎_elim (λ e. rw e (rw size at (get_or-append_seam s x [] End)))
-    (λ l. get_or-append s (x ∷ []) End c (omega arith) ∙ get_d_channels_up_to i n c l)
+    (λ l. get_or-append s (x ∷ []) End c (omega arith) ∙ get_or-channels_up_to i n c l)
     (eq-or-lt_of_le (le_of_suc-le-suc h))
 
-pub get_d_lines_from_lt :
+pub get_or_lines_from-lt :
     (i n c : ℕ) → 0 < n → c < channels_of i → get_or (lines_from i n) c End ≡ Channel i c (250 * quarters_of i c)
 unfolding lines_from
-get_d_lines_from_lt i zero c p h = absurd (not-suc-le-zero p)
-get_d_lines_from_lt i (suc n) c p h =
+get_or_lines_from-lt i zero c p h = absurd (not-suc-le-zero p)
+get_or_lines_from-lt i (suc n) c p h =
     get_or-append (channels_up_to i (channels_of i)) (lines_from (suc i) n) End c (rw length-channels_up_to h)
-    ∙ get_d_channels_up_to i (channels_of i) c h
+    ∙ get_or-channels_up_to i (channels_of i) c h
 
-get_d_lines_from_suc :
+get_or_lines_from-suc :
     (i n c : ℕ) → channels_of i ≤ c
     → get_or (lines_from i (suc n)) c End ≡ get_or (lines_from (suc i) n) (c - channels_of i) End
 unfolding lines_from
-get_d_lines_from_suc i n c h =
+get_or_lines_from-suc i n c h =
     let s = channels_up_to i (channels_of i) in
     let e : c ≡ length s + (c - channels_of i) = omega (arith, length-channels_up_to i (channels_of i)) in
     ap (λ (m : ℕ). get_or (s ++ lines_from (suc i) n) m End) e ∙ get_or-append-add s _ (c - channels_of i) End
 
-pub get_d_lines_from_le :
+pub get_or_lines_from-le :
     (i n c : ℕ) → 0 < n → channels_of i ≤ c
     → get_or (lines_from i n) c End ≡ get_or (lines_from (i + 1) (n - 1)) (c - channels_of i) End
-get_d_lines_from_le i zero c p h = absurd (not-suc-le-zero p)
-get_d_lines_from_le i (suc n) c p h =
+get_or_lines_from-le i zero c p h = absurd (not-suc-le-zero p)
+get_or_lines_from-le i (suc n) c p h =
     let e : suc n - 1 ≡ n = omega arith in
-    rw (e, add-one) (get_d_lines_from_suc i n c h)
+    rw (e, add-one) (get_or_lines_from-suc i n c h)
 
-pub get_d_lines_from_nil : (i n c : ℕ) → n ≤ 0 → get_or (lines_from i n) c End ≡ End
+pub get_or_lines_from-nil : (i n c : ℕ) → n ≤ 0 → get_or (lines_from i n) c End ≡ End
 unfolding lines_from
-get_d_lines_from_nil i zero c h = refl
-get_d_lines_from_nil i (suc n) c h = absurd (not-suc-le-zero h)
+get_or_lines_from-nil i zero c h = refl
+get_or_lines_from-nil i (suc n) c h = absurd (not-suc-le-zero h)

@@ -6,7 +6,7 @@
 --     gather_spread      the word of w chips at i * w of numbers written w chips each is number i
 --     spread_gather      the chips of words that were gathered one after the other are the chips gathered
 --     spread_shift       the chips from number a on
---     get_d_tabulate, length-tabulate, tabulate_same
+--     get_or_tabulate, length-tabulate, tabulate_same
 --     chip_at_packed      a chip of the packed bytes is the chip packed, or 0 behind the last
 --     word_at_packed      so is a word of them
 --     length_packed      as many bytes as hold the chips
@@ -110,13 +110,13 @@ length-tabulate f (suc n) =
     let ih : length (tabulate f n) ≡ n = length-tabulate f n in
     simp length-append (omega arith)
 
-pub get_d_tabulate : (f : ℕ → ℕ) (n k : ℕ) → k < n → get_or (tabulate f n) k 0 ≡ f k
+pub get_or_tabulate : (f : ℕ → ℕ) (n k : ℕ) → k < n → get_or (tabulate f n) k 0 ≡ f k
 unfolding tabulate
-get_d_tabulate f zero k h = absurd (not-suc-le-zero h)
-get_d_tabulate f (suc n) k h =
+get_or_tabulate f zero k h = absurd (not-suc-le-zero h)
+get_or_tabulate f (suc n) k h =
     let len : length (tabulate f n) ≡ n = length-tabulate f n in
     ⊎_elim (λ e. rw e (get_or_at (tabulate f n) (f n) [] 0 n len))
-    (λ lt. get_or-append (tabulate f n) (f n ∷ []) 0 k (omega arith) ∙ get_d_tabulate f n k lt)
+    (λ lt. get_or-append (tabulate f n) (f n ∷ []) 0 k (omega arith) ∙ get_or_tabulate f n k lt)
     (eq-or-lt_of_le (le_of_suc-le-suc h))
 
 pub tabulate_same : (f g : ℕ → ℕ) (n : ℕ) → ((k : ℕ) → k < n → f k ≡ g k) → tabulate f n ≡ tabulate g n
@@ -132,9 +132,9 @@ unfolding packed
 length_packed t f = length-tabulate _ _
 
 -- byte j of the packed bytes
-get_d_packed : (t : ℕ) (f : ℕ → ℕ) (j : ℕ) → j < (t + 7) / 8 → get_or (packed t f) j 0 ≡ gather (up_to t f) (8 * j) 8
+get_or_packed : (t : ℕ) (f : ℕ → ℕ) (j : ℕ) → j < (t + 7) / 8 → get_or (packed t f) j 0 ≡ gather (up_to t f) (8 * j) 8
 unfolding packed
-get_d_packed t f j h = get_d_tabulate (λ i. gather (up_to t f) (8 * i) 8) ((t + 7) / 8) j h
+get_or_packed t f j h = get_or_tabulate (λ i. gather (up_to t f) (8 * i) 8) ((t + 7) / 8) j h
 
 module _ (t : ℕ) (f : ℕ → ℕ) (bit : (k : ℕ) → f k < 2) where
   pub chip_at_packed : (k : ℕ) → chip_at (packed t f) k ≡ up_to t f k
@@ -142,7 +142,7 @@ module _ (t : ℕ) (f : ℕ → ℕ) (bit : (k : ℕ) → f k < 2) where
     within : k / 8 < (t + 7) / 8 → chip_at (packed t f) k ≡ up_to t f k
     within lt =
         let place : 8 * (k / 8) + k % 8 ≡ k = omega arith in
-        rw (get_d_packed t f (k / 8) lt)
+        rw (get_or_packed t f (k / 8) lt)
         (gather_chip (up_to t f) (up_to_lt t f bit) (8 * (k / 8)) 8 (k % 8) (omega arith) ∙ ap (up_to t f) place)
 
     behind : (t + 7) / 8 ≤ k / 8 → chip_at (packed t f) k ≡ up_to t f k
@@ -157,7 +157,7 @@ module _ (t : ℕ) (f : ℕ → ℕ) (bit : (k : ℕ) → f k < 2) where
   pub packed_lt : (j : ℕ) → get_or (packed t f) j 0 < 256
   packed_lt j = ⊎_elim within behind (below_or_not j ((t + 7) / 8)) where
     within : j < (t + 7) / 8 → get_or (packed t f) j 0 < 256
-    within lt = rw (get_d_packed t f j lt) (gather-lt (up_to t f) (up_to_lt t f bit) (8 * j) 8)
+    within lt = rw (get_or_packed t f j lt) (gather-lt (up_to t f) (up_to_lt t f bit) (8 * j) 8)
 
     behind : (t + 7) / 8 ≤ j → get_or (packed t f) j 0 < 256
     behind le = rw (get_or-eq_default (packed t f) 0 {n = j} (rw (length_packed t f) le)) (omega arith)

@@ -18,7 +18,7 @@ use lib.Dec.{eqb}
 use lib.ListN.{length, get_or, length-append}
 use Rattle.ground.specs.Apart.{apart}
 use Rattle.ground.specs.Sums.{xors}
-use Rattle.ground.proofs.SumLaws.{length-xors, xors-append, get_d_xors}
+use Rattle.ground.proofs.SumLaws.{length-xors, xors-append, get_or-xors}
 use Rattle.ground.proofs.XorLaws.{xor_equal}
 use Rattle.patterns.proofs.Patterns.{Digits, Zeros, ones}
 use Rattle.damage.specs.Damage.{places, bits_of, Inverted, Damaged, inverted}
@@ -61,7 +61,7 @@ pattern-nil = refl
 
 pub pattern_self : (u v : List ℕ) → u ≡ v → Zeros (pattern u v)
 pattern_self u v e p =
-    ap (λ (x : List ℕ). get_or (pattern u x) p 0) (sym e) ∙ get_d_xors (bits_of u) (bits_of u) p refl
+    ap (λ (x : List ℕ). get_or (pattern u x) p 0) (sym e) ∙ get_or-xors (bits_of u) (bits_of u) p refl
     ∙ xor_self (get_or (bits_of u) p 0)
 
 -- two digits
@@ -91,7 +91,7 @@ module _ (old new : List ℕ) (count : length new ≡ length old) where
 
   pub pattern_at : (p : ℕ)
       → get_or (pattern old new) p 0 ≡ bit_xor (get_or (bits_of old) p 0) (get_or (bits_of new) p 0)
-  pattern_at p = get_d_xors (bits_of old) (bits_of new) p bits_count
+  pattern_at p = get_or-xors (bits_of old) (bits_of new) p bits_count
 
   pub pattern_digits : Digits (pattern old new)
   pattern_digits p =

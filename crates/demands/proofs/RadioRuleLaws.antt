@@ -35,7 +35,7 @@ use Rattle.blocks.proofs.TurnLaws.{size_of_first}
 use Rattle.frame.proofs.FormatLaws.{one-lt_first, zero-lt_later}
 use Rattle.line.proofs.TripLaws.{length-decoding, decoding-lt}
 use Rattle.radio.proofs.AirLaws.{SyncAt, sent_at_coded}
-use Rattle.radio.proofs.ThroughLaws.{Through, get_d_decoding}
+use Rattle.radio.proofs.ThroughLaws.{Through, get_or-decoding}
 use Rattle.radio.proofs.FrameHeardLaws.{coded_read}
 use Rattle.sync.proofs.TailLaws.{kind_for_fits, lead_of-le}
 use Rattle.radio.proofs.KindLaws.{sync_at_fits, sync_at_unsearched}
@@ -108,7 +108,7 @@ module _ (k : Kind) (place t : ℕ) (s d : List ℕ) (sync : SyncAt k s place) w
     judged_bytes : judge_of (format_of k) bytes ≡ by_checks z n (first_wrong 1 (spans_of (format_of k) n) bytes)
     judged_bytes =
         let size = length-decoding (line_of k) s at z in
-        let head = get_d_decoding (line_of k) s at z some in
+        let head = get_or-decoding (line_of k) s at z some in
         judge_of_whole (format_of k) bytes (rw size some) (rw head sized) (omega (arith, size))
 
     -- its content, and that sending it writes these chips

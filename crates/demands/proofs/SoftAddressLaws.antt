@@ -24,7 +24,7 @@ use Rattle.ground.proofs.ByteLaws.{bytes_take, bytes_drop, bytes-set}
 use Rattle.ground.proofs.CaseLaws.{by_test, zero_not_one}
 use Rattle.address.specs.Names.{two_at, name_of}
 use Rattle.address.specs.Keys.{key_bytes, key_at}
-use Rattle.address.proofs.NameLaws.{length_name_of, get_d_name_of}
+use Rattle.address.proofs.NameLaws.{length_name_of, get_or_name_of}
 use Rattle.address.proofs.MakerLaws.{turned_none}
 use Rattle.header.specs.declared.layout.Header.{Header}
 use Rattle.header.specs.declared.reading.HeaderReading.{HeaderReading}
@@ -58,8 +58,8 @@ module _ (s : List ℕ) (there : 2 < length s) where
 
   pub names_differ : name_of s ≡ name_of (top_turned s) → ⊥
   names_differ e =
-      let second = sym (get_d_name_of s 1 (omega arith)) ∙ ap (λ (x : List ℕ). get_or x 1 0) e
-      ∙ get_d_name_of (top_turned s) 1 (omega arith) in
+      let second = sym (get_or_name_of s 1 (omega arith)) ∙ ap (λ (x : List ℕ). get_or x 1 0) e
+      ∙ get_or_name_of (top_turned s) 1 (omega arith) in
       omega (arith, turned_none (get_or s 2 0) 0x80 (sym (second ∙ turned_byte)))
 
 turned_long : (s : List ℕ) → 9 ≤ length s → 9 ≤ length (top_turned s)

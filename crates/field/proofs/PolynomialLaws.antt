@@ -5,7 +5,7 @@
 --     zeros_front                  zeros in front change nothing
 --     eval_lt                      a value of bytes is a byte
 --     length_scaled, length-by_root, bytes_scaled, bytes-by_root    what the products are lists of
---     get_d_scaled                  a coefficient of a polynomial times an element
+--     get_or_scaled                  a coefficient of a polynomial times an element
 --     eval_scaled, value_scaled    the value of a polynomial times an element
 --     value_by_root                 the value of a polynomial times x + s
 --     value_at_root                is 0 at s
@@ -72,11 +72,11 @@ unfolding scaled
 bytes_scaled c [] h = bytes-nil
 bytes_scaled c (x ∷ w) h = bytes-cons (mul c x) (scaled c w) (mul-lt c x h) (bytes_scaled c w h)
 
-pub get_d_scaled : (c : ℕ) (w : List ℕ) (j : ℕ) → get_or (scaled c w) j 0 ≡ mul c (get_or w j 0)
+pub get_or_scaled : (c : ℕ) (w : List ℕ) (j : ℕ) → get_or (scaled c w) j 0 ≡ mul c (get_or w j 0)
 unfolding scaled
-get_d_scaled c [] j = sym (mul-zero_r c)
-get_d_scaled c (x ∷ w) zero = refl
-get_d_scaled c (x ∷ w) (suc j) = get_d_scaled c w j
+get_or_scaled c [] j = sym (mul-zero_r c)
+get_or_scaled c (x ∷ w) zero = refl
+get_or_scaled c (x ∷ w) (suc j) = get_or_scaled c w j
 
 pub eval_scaled : (r c a : ℕ) (w : List ℕ) → c < 256 → a < 256 → Bytes w
     → eval_from r (mul c a) (scaled c w) ≡ mul c (eval_from r a w)

@@ -24,13 +24,13 @@ powers_from : ℕ → ℕ → List ℕ
 powers_from zero a = []
 powers_from (suc n) a = a ∷ powers_from n (up a)
 
-get_d_powers : (n j k : ℕ) → k < n → get_or (powers_from n (alpha_to j)) k 0 ≡ alpha_to (j + k)
+get_or_powers : (n j k : ℕ) → k < n → get_or (powers_from n (alpha_to j)) k 0 ≡ alpha_to (j + k)
 unfolding powers_from alpha_to
-get_d_powers zero j k h = absurd (omega arith)
-get_d_powers (suc n) j zero h = ap alpha_to (sym (add-zero j))
-get_d_powers (suc n) j (suc k) h =
+get_or_powers zero j k h = absurd (omega arith)
+get_or_powers (suc n) j zero h = ap alpha_to (sym (add-zero j))
+get_or_powers (suc n) j (suc k) h =
     let e : suc j + k ≡ j + suc k = omega arith in
-    get_d_powers n (suc j) k (omega arith) ∙ ap alpha_to e
+    get_or_powers n (suc j) k (omega arith) ∙ ap alpha_to e
 
 index_of : ℕ → List ℕ → ℕ
 index_of x [] = 0
@@ -41,7 +41,7 @@ powers = powers_from 255 1
 
 power_at : (p : ℕ) → p < 255 → get_or powers p 0 ≡ alpha_to p
 unfolding powers alpha_to
-power_at p h = get_d_powers 255 0 p h ∙ ap alpha_to (zero-add p)
+power_at p h = get_or_powers 255 0 p h ∙ ap alpha_to (zero-add p)
 
 pub log : ℕ → ℕ
 log b = index_of b powers

@@ -69,11 +69,11 @@ changes_answer f (e ∷ es) s z c at =
     let next = changes_answer f es _ z (set c e.place e.byte) (change_frame at e.place e.byte) in
     rw (change_answer at e.place e.byte, rw (length-set c e.place e.byte) at next)
 
-get_d_set_eqb :
+get_or-set_eqb :
     (c : List ℕ) (e : Edit) (k : ℕ) (t : Bool) → eqb e.place k ≡ t → k < length c
     → get_or (set c e.place e.byte) k 0 ≡ cond t e.byte (get_or c k 0)
-get_d_set_eqb c e k true h there = rw (eqb-true e.place k h) (get_or-set_same c k e.byte 0 there)
-get_d_set_eqb c e k false h there =
+get_or-set_eqb c e k true h there = rw (eqb-true e.place k h) (get_or-set_same c k e.byte 0 there)
+get_or-set_eqb c e k false h there =
     get_or-set_other c e.place k e.byte 0 (λ same. eqb-false e.place k h (sym same))
 
 pub edited_last :
@@ -82,4 +82,4 @@ unfolding edited last_at
 edited_last [] c k there = refl
 edited_last (e ∷ es) c k there =
     edited_last es (set c e.place e.byte) k (rw (length-set c e.place e.byte) there)
-    ∙ ap (last_at es k) (get_d_set_eqb c e k (eqb e.place k) refl there)
+    ∙ ap (last_at es k) (get_or-set_eqb c e k (eqb e.place k) refl there)

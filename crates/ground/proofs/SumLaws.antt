@@ -9,7 +9,7 @@
 --     xors_equal                   two lists of one length whose sum is zeros are one
 --     xors-append                  fronts of one length are added by themselves
 --     bytes-xors                   a sum of bytes is bytes
---     get_d_xors                    one element of a sum
+--     get_or-xors                    one element of a sum
 -- Assumes nothing.
 use mathlib.Core.Path.{◌≡◌, refl, sym, ap, ap₂, ◌∙◌}
 use mathlib.Core.List.{List, [], ◌∷◌, ◌++◌}
@@ -91,11 +91,11 @@ bytes-xors (x ∷ u) [] b c = bytes-nil
 bytes-xors (x ∷ u) (y ∷ v) b c =
     bytes-cons (bit_xor x y) (xors u v) (xor_lt 8 x y (b 0) (c 0)) (bytes-xors u v (λ j. b (suc j)) (λ j. c (suc j)))
 
-pub get_d_xors : (u v : List ℕ) (j : ℕ) → length u ≡ length v
+pub get_or-xors : (u v : List ℕ) (j : ℕ) → length u ≡ length v
     → get_or (xors u v) j 0 ≡ bit_xor (get_or u j 0) (get_or v j 0)
 unfolding xors
-get_d_xors [] [] j e = refl
-get_d_xors [] (y ∷ v) j e = absurd (omega arith)
-get_d_xors (x ∷ u) [] j e = absurd (omega arith)
-get_d_xors (x ∷ u) (y ∷ v) zero e = refl
-get_d_xors (x ∷ u) (y ∷ v) (suc j) e = get_d_xors u v j (omega arith)
+get_or-xors [] [] j e = refl
+get_or-xors [] (y ∷ v) j e = absurd (omega arith)
+get_or-xors (x ∷ u) [] j e = absurd (omega arith)
+get_or-xors (x ∷ u) (y ∷ v) zero e = refl
+get_or-xors (x ∷ u) (y ∷ v) (suc j) e = get_or-xors u v j (omega arith)

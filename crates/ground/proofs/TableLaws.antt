@@ -1,11 +1,11 @@
 -- Facts about every number below a bound, shown by letting antt compute them one after the other.
 --     values f n i    the list f i, f (i + 1), .., of n entries
---     get_d_values     entry k of a table that lists f from 0 is f k
+--     get_or_values     entry k of a table that lists f from 0 is f k
 --     all_below f n    the test f passes at every number below n
 --     all_below_at     then it passes at each of them
 --     passed          a test that passes is true
 --     all_bytes       a list whose elements pass the test, one by one, is of bytes
--- A table of the source that follows a rule f is `values f n 0` by computation: `get_d_values` is its whole proof.
+-- A table of the source that follows a rule f is `values f n 0` by computation: `get_or_values` is its whole proof.
 -- Assumes nothing.
 use mathlib.Core.Path.{◌≡◌, refl, ap, ◌∙◌, sym, subst}
 use mathlib.Core.Logic.{⊎_elim}
@@ -25,19 +25,19 @@ abbrev pub values : {A : Type 0} → (ℕ → A) → ℕ → ℕ → List A
 values f zero i = []
 values f (suc n) i = f i ∷ values f n (suc i)
 
-get_d_values_from : {A : Type 0} (f : ℕ → A) (n i k : ℕ) (d : A) → k < n → get_or (values f n i) k d ≡ f (i + k)
-get_d_values_from f zero i k d h = absurd (not-suc-le-zero h)
-get_d_values_from f (suc n) i zero d h =
+get_or_values_from : {A : Type 0} (f : ℕ → A) (n i k : ℕ) (d : A) → k < n → get_or (values f n i) k d ≡ f (i + k)
+get_or_values_from f zero i k d h = absurd (not-suc-le-zero h)
+get_or_values_from f (suc n) i zero d h =
     let e : i ≡ i + 0 = omega arith in
     ap f e
-get_d_values_from f (suc n) i (suc k) d h =
+get_or_values_from f (suc n) i (suc k) d h =
     let e : suc i + k ≡ i + suc k = omega arith in
-    get_d_values_from f n (suc i) k d (le_of_suc-le-suc h) ∙ ap f e
+    get_or_values_from f n (suc i) k d (le_of_suc-le-suc h) ∙ ap f e
 
-pub get_d_values : {A : Type 0} (f : ℕ → A) (n k : ℕ) (d : A) → k < n → get_or (values f n 0) k d ≡ f k
-get_d_values f n k d h =
+pub get_or_values : {A : Type 0} (f : ℕ → A) (n k : ℕ) (d : A) → k < n → get_or (values f n 0) k d ≡ f k
+get_or_values f n k d h =
     let e : 0 + k ≡ k = omega arith in
-    get_d_values_from f n 0 k d h ∙ ap f e
+    get_or_values_from f n 0 k d h ∙ ap f e
 
 abbrev pub all_below : (ℕ → Bool) → ℕ → Bool
 all_below f zero = true

@@ -19,7 +19,7 @@ use lib.Seq.{get_or-set_same, get_or-set_other}
 use lib.Pow.{shr-shr}
 use Rattle.chips.proofs.WindowLaws.{word_at_window}
 use Rattle.chips.specs.Chips.{word_at}
-use Rattle.ground.proofs.TableLaws.{get_d_values}
+use Rattle.ground.proofs.TableLaws.{get_or_values}
 use Rattle.line.proofs.CodeLaws.{lawful, word_value_is}
 use Rattle.line.proofs.JoiningLaws.{Joining, joining_start, joining_step, joining_bad, joining_end}
 use Rattle.line.specs.Codes.{LineCode, code_of, word_value, number_for}
@@ -39,7 +39,7 @@ cut_out y = row_of (y / 8) / 2 ^ (56 - 8 * (y % 8)) % 256
 
 pub row_of_listed : (y : ℕ) → y < 64 → cut_out y ≡ listed_for y
 unfolding number_for
-row_of_listed y h = sym (get_d_values cut_out 64 y 0 h) ∙ get_d_values listed_for 64 y 0 h
+row_of_listed y h = sym (get_or_values cut_out 64 y 0 h) ∙ get_or_values listed_for 64 y 0 h
 
 pub Halves-none : {t : List ℕ} → length t ≡ 64 → Halves 0 t
 Halves-none size = record { size = size; entry = λ y h. absurd (not-suc-le-zero h) }

@@ -24,7 +24,7 @@ use native.Mathlib.Omega.{arith}
 use lib.ListN.{length, get_or, drop}
 use lib.Seq.{ext_get_or}
 use Rattle.chips.proofs.GatherLaws.{gather-lt, chip_at-lt}
-use Rattle.chips.proofs.PackingLaws.{gather_same, spread_gather, get_d_tabulate, length-tabulate, packed_whole, length_packed, packed_lt, chip_at_packed, word_at_packed, up_to_within, chip_at_middle}
+use Rattle.chips.proofs.PackingLaws.{gather_same, spread_gather, get_or_tabulate, length-tabulate, packed_whole, length_packed, packed_lt, chip_at_packed, word_at_packed, up_to_within, chip_at_middle}
 use Rattle.chips.proofs.WindowLaws.{word_at_byte}
 use Rattle.chips.specs.Chips.{gather, chip_at, word_at, chip_count, room_limit}
 use Rattle.chips.specs.Packing.{tabulate}
@@ -95,7 +95,7 @@ module _ {κ : LineCode} (law : Lawful κ) (s : List ℕ) (start : ℕ) where
         packed_whole (length b) (decoded_chip κ s start)
         ∙ ext_get_or 0 (tabulate byte (length b)) b (length-tabulate _ (length b))
         (λ j h. let lt : j < length b = rw length-tabulate at h in
-        get_d_tabulate byte (length b) j lt ∙ gather_holds j lt (bytes j))
+        get_or_tabulate byte (length b) j lt ∙ gather_holds j lt (bytes j))
 
 module _ (κ : LineCode) (s : List ℕ) (start n : ℕ) where
   pub length-decoding : length (decoding κ s start n) ≡ n

@@ -16,11 +16,11 @@ use lib.ListN.{length, get_or, take, drop, length-drop}
 use lib.Seq.{take_all}
 use Rattle.ground.specs.Bytes.{Bytes}
 use Rattle.ground.specs.Sums.{xors}
-use Rattle.ground.proofs.SumLaws.{length-xors, bytes-xors, get_d_xors}
+use Rattle.ground.proofs.SumLaws.{length-xors, bytes-xors, get_or-xors}
 use Rattle.field.specs.Field.{mul}
 use Rattle.field.specs.Polynomials.{scaled}
 use Rattle.field.proofs.FieldLaws.{mul-zero_l, mul-zero_r}
-use Rattle.field.proofs.PolynomialLaws.{length_scaled, bytes_scaled, get_d_scaled}
+use Rattle.field.proofs.PolynomialLaws.{length_scaled, bytes_scaled, get_or_scaled}
 use Rattle.locators.specs.Combinations.{combined}
 use Rattle.locators.proofs.CombineLaws.{combined-xors, combined_scaled}
 use Rattle.locating.specs.Inner.{Slot, Cleared, Reducing, Stepped}
@@ -35,7 +35,7 @@ module _ (v p : List ℕ) (f : ℕ) (same : length p ≡ length v) where
 
   pub added_at : (t : ℕ) {x y : ℕ} → x ≡ get_or v t 0 → y ≡ mul f (get_or p t 0)
       → bit_xor x y ≡ get_or (xors v (scaled f p)) t 0
-  added_at t ex ey = ap₂ bit_xor ex (ey ∙ sym (get_d_scaled f p t)) ∙ sym (get_d_xors v (scaled f p) t alike)
+  added_at t ex ey = ap₂ bit_xor ex (ey ∙ sym (get_or_scaled f p t)) ∙ sym (get_or-xors v (scaled f p) t alike)
 
 pub combined_skip : (s : List ℕ) (n : ℕ) (v : List ℕ) (i : ℕ) → ((t : ℕ) → t < n → get_or v t 0 ≡ 0)
     → combined s (drop n v) i ≡ combined s v i

@@ -29,7 +29,7 @@ use Rattle.radio.specs.KindParts.{code_for, line_of, format_of}
 use Rattle.radio.specs.Receiving.{length_at, by_frame, by_size, frame_after}
 use Rattle.radio.specs.Heard.{heard_of}
 use Rattle.radio.proofs.AirLaws.{FrameCoded}
-use Rattle.radio.proofs.ThroughLaws.{Through, through_le, after_words_through, get_d_decoding}
+use Rattle.radio.proofs.ThroughLaws.{Through, through_le, after_words_through, get_or-decoding}
 
 -- the size that the length byte of a content's frame says
 size_for_length_byte :
@@ -39,8 +39,8 @@ size_for_length_byte f c low high =
     rw (allowed-length_byte f (length c) low high, content_length-length_byte f (length c) low high)
 
 -- a frame has its length byte in front, and so one byte at least
-get_d_frame_of : (f : Format) (c t : List ℕ) → get_or (frame_of f c ++ t) 0 0 ≡ (form_of f).length_byte (length c)
-get_d_frame_of f c t = ap (λ (l : List ℕ). get_or (l ++ t) 0 0) (frame_of_cons f c)
+get_or_frame_of : (f : Format) (c t : List ℕ) → get_or (frame_of f c ++ t) 0 0 ≡ (form_of f).length_byte (length c)
+get_or_frame_of f c t = ap (λ (l : List ℕ). get_or (l ++ t) 0 0) (frame_of_cons f c)
 
 frame_of_some : (f : Format) (c : List ℕ) → 0 < length (frame_of f c)
 frame_of_some f c = rw (frame_of_cons f c) (omega arith)
@@ -79,9 +79,9 @@ module _ {k : Kind} {s : List ℕ} {place : ℕ} {c : List ℕ} (p : FrameCoded 
 
   length_at_coded : length_at (line_of k) s at ≡ (form_of (format_of k)).length_byte (length c)
   length_at_coded =
-      sym (get_d_decoding (line_of k) s at size size_some)
+      sym (get_or-decoding (line_of k) s at size size_some)
       ∙ ap (λ (x : List ℕ). get_or x 0 0) (decoding_coded ∙ sym (append-nil frame))
-      ∙ get_d_frame_of (format_of k) c []
+      ∙ get_or_frame_of (format_of k) c []
 
   size_for_coded : size_for (format_of k) (length_at (line_of k) s at) ≡ Frame.Accepted size (length c)
   size_for_coded = ap (size_for (format_of k)) length_at_coded ∙ size_for_length_byte (format_of k) c p.low p.high
@@ -120,9 +120,9 @@ module _ (k : Kind) {s : List ℕ} (place : ℕ) {y m z : ℕ} {c : List ℕ}
 
   length_at_read : length_at (line_of k) s (place + lead_of k) ≡ (form_of (format_of k)).length_byte (length c)
   length_at_read =
-      sym (get_d_decoding (line_of k) s (place + lead_of k) y bytes_some)
+      sym (get_or-decoding (line_of k) s (place + lead_of k) y bytes_some)
       ∙ ap (λ (x : List ℕ). get_or x 0 0) (frame_split frame)
-      ∙ get_d_frame_of (format_of k) c (drop z bytes)
+      ∙ get_or_frame_of (format_of k) c (drop z bytes)
 
   -- so z are all of them
   size_read : z ≡ y

@@ -4,7 +4,7 @@
 --     after_words_cases          whatever holds of its three refusals, and of what comes next behind such words, holds
 --     after_words_through        behind such words what comes next decides
 --     through_le                fewer bytes of the same words
---     get_d_decoding             the first of some decoded bytes is the length byte
+--     get_or-decoding             the first of some decoded bytes is the length byte
 use mathlib.Core.Bool.{Bool, true, false, cond}
 use mathlib.Core.List.{List}
 use mathlib.Core.Path.{◌≡◌, refl}
@@ -45,9 +45,9 @@ module _ {κ : LineCode} {s : List ℕ} {at n : ℕ} (p : Through κ s at n) {m 
   pub through_le : Through κ s at m
   through_le = record { small = p.small; there = there-le; words = words-le }
 
-pub get_d_decoding :
+pub get_or-decoding :
     (κ : LineCode) (s : List ℕ) (at n : ℕ) → 0 < n → get_or (decoding κ s at n) 0 0 ≡ length_at κ s at
-get_d_decoding κ s at n h = decoding_head κ s at n 1 h (omega arith)
+get_or-decoding κ s at n h = decoding_head κ s at n 1 h (omega arith)
 
 module _ (κ : LineCode) (s : List ℕ) (at n : ℕ) (d : List ℕ) (next : Outcome Reception) where
   abbrev good : ℕ

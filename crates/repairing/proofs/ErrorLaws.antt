@@ -15,7 +15,7 @@ use lib.ListN.{length, get_or}
 use Rattle.ground.specs.Bytes.{Bytes}
 use Rattle.ground.specs.Sums.{xors}
 use Rattle.ground.proofs.ByteLaws.{bytes-set}
-use Rattle.ground.proofs.SumLaws.{length-xors, bytes-xors, get_d_xors}
+use Rattle.ground.proofs.SumLaws.{length-xors, bytes-xors, get_or-xors}
 use Rattle.ground.proofs.XorLaws.{xor_equal}
 use Rattle.field.specs.Field.{mul}
 use Rattle.field.specs.Polynomials.{value_at}
@@ -70,7 +70,7 @@ module _ {u w s : List ℕ} (word : Word u w s) (c : List ℕ) (near : Near 16 u
   errors_bytes = bytes-xors w c word.bytes near.bytes
 
   pub error_at : (i : ℕ) → get_or errors i 0 ≡ bit_xor (get_or w i 0) (get_or c i 0)
-  error_at i = get_d_xors w c i same
+  error_at i = get_or-xors w c i same
 
   pub errors_values : Values 112 errors s
   unfolding root

@@ -23,7 +23,7 @@ use Rattle.sessions.specs.Meters.{Store, stranger}
 use Rattle.sessions.specs.StoreFile.{meters_bytes, meters_in, all_right, unlike, right_count, right_body, store_in}
 use Rattle.sessions.specs.Valid.{Fits, Valid}
 use Rattle.sessions.proofs.MeterBytesLaws.{fits-meter_in}
-use Rattle.sessions.proofs.MetersInLaws.{meters_in_bytes, all_right_bytes, take-meters_bytes, length-meters_in, get_d_meters_in}
+use Rattle.sessions.proofs.MetersInLaws.{meters_in_bytes, all_right_bytes, take-meters_bytes, length-meters_in, get_or-meters_in}
 use Rattle.sessions.proofs.OnceLaws.{unlike_once}
 
 pub record MetersAt (k : ℕ) (s : List ℕ) (ms : List Meter) (rest : List ℕ) : Type 0 where
@@ -77,7 +77,7 @@ module _ (k : ℕ) (s : List ℕ) (right : right_body k s ≡ true) where
         → Fits (get_or (meters_in (get_or s (k + 1) 0) (drop (k + 2) s)) i (stranger 0))
     fit_body i h =
         let t = drop (k + 2) s in
-        rw (get_d_meters_in (get_or s (k + 1) 0) t i (stranger 0) h)
+        rw (get_or-meters_in (get_or s (k + 1) 0) t i (stranger 0) h)
         (fits-meter_in (drop (20 * i) t) (bytes_drop (20 * i) t (bytes_drop (k + 2) s bytes)))
 
     pub valid_body : (a : ℕ) → a < 4294967296 → Valid (store_in k a s)

@@ -1,7 +1,7 @@
 -- Meters one behind the other (specs/StoreFile), written and read back, and a walk over them from the first.
 --     meters_in_bytes, all_right_bytes    the meters that are read where they were written, and that they are meters
 --     take-meters_bytes                  the bytes of meters that were read are those that stood there
---     length-meters_in, get_d_meters_in    n meters, the one at place i from byte 20 i on
+--     length-meters_in, get_or-meters_in    n meters, the one at place i from byte 20 i on
 --     right_meter_at                     where all are meters, the one at place i is
 --     meters_in-suc, all_right-suc        one more
 --     take-meters_in                     the first i of them
@@ -63,12 +63,12 @@ unfolding meters_in
 length-meters_in zero s = refl
 length-meters_in (suc n) s = ap suc (length-meters_in n (drop 20 s))
 
-pub get_d_meters_in :
+pub get_or-meters_in :
     (n : ℕ) (s : List ℕ) (i : ℕ) (d : Meter) → i < n → get_or (meters_in n s) i d ≡ meter_in (drop (20 * i) s)
 unfolding meters_in
-get_d_meters_in zero s i d h = absurd (omega arith)
-get_d_meters_in (suc n) s zero d h = refl
-get_d_meters_in (suc n) s (suc i) d h = get_d_meters_in n (drop 20 s) i d (omega arith) ∙ ap meter_in (drop_next i s)
+get_or-meters_in zero s i d h = absurd (omega arith)
+get_or-meters_in (suc n) s zero d h = refl
+get_or-meters_in (suc n) s (suc i) d h = get_or-meters_in n (drop 20 s) i d (omega arith) ∙ ap meter_in (drop_next i s)
 
 pub right_meter_at : (n : ℕ) (s : List ℕ) (i : ℕ) → all_right n s ≡ true → i < n → right_meter (drop (20 * i) s) ≡ true
 unfolding all_right

@@ -14,7 +14,7 @@ use lib.ListN.{length, get_or, drop, set, length-set}
 use lib.Seq.{drop-drop, get_or-take}
 use Rattle.sessions.specs.Meters.{stranger, holds}
 use Rattle.sessions.specs.StoreFile.{meter_in, meters_in, right_meter, all_right, unlike}
-use Rattle.sessions.proofs.MetersInLaws.{right_meter_at, all_right-suc, meters_in-suc, take-meters_in, length-meters_in, get_d_meters_in}
+use Rattle.sessions.proofs.MetersInLaws.{right_meter_at, all_right-suc, meters_in-suc, take-meters_in, length-meters_in, get_or-meters_in}
 use Rattle.sessions.proofs.OnceLaws.{unlike_once, unlike_snoc}
 use Rattle.store.specs.Inner.{place_of, address_at, slot_of, Indexed}
 use Rattle.store.proofs.MeterAtLaws.{key_at_drop}
@@ -62,7 +62,7 @@ module _ (s : List ℕ) (first i : ℕ) where
       let earlier : (get_or (meters_in n t) p (stranger 0)).address ≡ a =
       rw (← get_or-take i (meters_in n t) p (stranger 0) before, take-meters_in i n t (omega arith)) there in
       let later : (get_or (meters_in n t) i (stranger 0)).address
-      ≡ a = rw (get_d_meters_in n t i (stranger 0) low, behind) in
+      ≡ a = rw (get_or-meters_in n t i (stranger 0) low, behind) in
       let long = length-meters_in n t in
       let inside : p < length (meters_in n t) = omega (arith, before, low, long) in
       not_true (unlike [] (meters_in n t)) (λ once.

@@ -27,7 +27,7 @@ use Rattle.sessions.specs.Changes.{with_meter}
 use Rattle.sessions.specs.StoreFile.{meter_bytes, meter_in, meters_in, unlike, memory_of}
 use Rattle.sessions.specs.StoreCalls.{◌and_then◌, kept, leaves}
 use Rattle.sessions.proofs.ExactLaws.{memory_of_exactly, memory_of_is, leaves_same}
-use Rattle.sessions.proofs.MetersInLaws.{length-meters_in, get_d_meters_in}
+use Rattle.sessions.proofs.MetersInLaws.{length-meters_in, get_or-meters_in}
 use Rattle.sessions.proofs.OnceLaws.{unlike_once}
 use Rattle.sessions.proofs.PutLaws.{meter_of-stranger}
 use Rattle.store.specs.Inner.{place_of, held_by, known_at}
@@ -106,7 +106,7 @@ module _ {s : List ℕ} {count : ℕ} (k : Kept s count) (a p : ℕ) (at : p ≡
 
   pub meter_there : p < count → meter_in (drop (8 + 20 * p) s) ≡ meter_of a k.store.meters
   meter_there low =
-      let here = get_d_meters_in count (drop 8 s) p (stranger a) low in
+      let here = get_or-meters_in count (drop 8 s) p (stranger a) low in
       rw (meter_of_place_of a k.store.meters, ← k.meters, ← at, here, drop-drop (20 * p) 8 s)
 
   pub meter_known : known_at s count p a ≡ meter_of a k.store.meters

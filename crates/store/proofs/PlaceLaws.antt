@@ -19,7 +19,7 @@ use Rattle.address.specs.Keys.{key_at}
 use Rattle.sessions.specs.declared.Meter.{Meter}
 use Rattle.sessions.specs.Meters.{stranger, meter_of, holds, put}
 use Rattle.sessions.specs.StoreFile.{meters_in, unlike}
-use Rattle.sessions.proofs.MetersInLaws.{get_d_meters_in, length-meters_in}
+use Rattle.sessions.proofs.MetersInLaws.{get_or-meters_in, length-meters_in}
 use Rattle.sessions.proofs.OnceLaws.{unlike_once, holds_place, place_holds}
 use Rattle.store.specs.Inner.{place_of}
 use Rattle.store.proofs.IndexLaws.{not_true}
@@ -112,7 +112,7 @@ pub address_at_lem :
     i < count →
     (get_or (meters_in count (drop first s)) i d).address ≡ key_at s (first + 20 * i + 1)
 address_at_lem s first count i d h =
-    rw (get_d_meters_in count (drop first s) i d h, drop-drop (20 * i) first s) (key_at_drop s (first + 20 * i) 1)
+    rw (get_or-meters_in count (drop first s) i d h, drop-drop (20 * i) first s) (key_at_drop s (first + 20 * i) 1)
 
 pub stands_at :
     (s : List ℕ) (first count i a : ℕ) →

@@ -24,7 +24,7 @@ use Rattle.sessions.specs.declared.Meter.{Meter}
 use Rattle.sessions.specs.Meters.{stranger, meter_of, holds, put}
 use Rattle.sessions.specs.Changes.{merged, restored}
 use Rattle.sessions.specs.StoreFile.{meter_in, meters_in}
-use Rattle.sessions.proofs.MetersInLaws.{meters_in-suc, take-meters_in, length-meters_in, get_d_meters_in}
+use Rattle.sessions.proofs.MetersInLaws.{meters_in-suc, take-meters_in, length-meters_in, get_or-meters_in}
 use Rattle.sessions.proofs.MeterBytesLaws.{fits-meter_in}
 use Rattle.sessions.proofs.OnceLaws.{holds_place, unlike_once}
 use Rattle.sessions.proofs.PutValidLaws.{AllFit, all_fit_restored}
@@ -67,7 +67,7 @@ length-restored-le ms (f ∷ fs) =
 
 all_fit_meters_in : (n : ℕ) (t : List ℕ) → Bytes t → AllFit (meters_in n t)
 all_fit_meters_in n t bytes i low =
-    rw (get_d_meters_in n t i (stranger 0) (omega (arith, length-meters_in n t)))
+    rw (get_or-meters_in n t i (stranger 0) (omega (arith, length-meters_in n t)))
     (fits-meter_in (drop (20 * i) t) (bytes_drop (20 * i) t bytes))
 
 module _ (s : List ℕ) (count : ℕ) (file : List ℕ) (first : ℕ) where

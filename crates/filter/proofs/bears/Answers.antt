@@ -4,7 +4,7 @@ use Prim.Native.Nat.{ℕ}
 use native.Mathlib.Omega.{arith}
 use lib.ListN.{length}
 use Rattle.address.specs.Names.{name_of}
-use Rattle.address.proofs.NameLaws.{length_name_of, get_d_name_of, same_bytes_next, same_bytes_differ, same_bytes_end}
+use Rattle.address.proofs.NameLaws.{length_name_of, get_or_name_of, same_bytes_next, same_bytes_differ, same_bytes_end}
 use Rattle.filter.proofs.bears.Goals.{At-loop-i}
 use Rattle.filter.proofs.bears.Goals as goal
 
@@ -22,7 +22,7 @@ returns-then-entry-i c =
     sym (sym c.loop-i.invariant.1
     ∙ same_bytes_differ c.args.entry (name_of s) i (omega (arith, eight (goal.at.returns-then-entry-i c).At-loop-i))
     (omega (arith, eight (goal.at.returns-then-entry-i c).At-loop-i))
-    (λ e. omega (arith, c.if-entry-i.true, get_d_name_of s i (omega arith))))
+    (λ e. omega (arith, c.if-entry-i.true, get_or_name_of s i (omega arith))))
 
 pub loop-i-preserved : goal.loop-i-preserved
 loop-i-preserved c =
@@ -31,7 +31,7 @@ loop-i-preserved c =
       omega arith,
       same_bytes_next c.args.entry (name_of s) i (omega (arith, eight (goal.at.loop-i-preserved c).At-loop-i))
           (omega (arith, eight (goal.at.loop-i-preserved c).At-loop-i))
-          (omega (arith, c.if-entry-i.false, get_d_name_of s i (omega arith)))
+          (omega (arith, c.if-entry-i.false, get_or_name_of s i (omega arith)))
           ∙ c.loop-i.invariant.1,
     )
 

@@ -6,7 +6,7 @@ use Prim.Native.Nat.{ℕ}
 use lib.Count.{count_trailing_zeros}
 use lib.Ieee.{Float, nan, round, size, span, climb, units, odd, of_bits, of_fields}
 use lib.ListN.{get_or}
-use Rattle.ground.proofs.TableLaws.{get_d_values}
+use Rattle.ground.proofs.TableLaws.{get_or_values}
 use Rattle.channels.specs.declared.plan.Row.{Row}
 use Rattle.channels.specs.Table21.{table, entry_of}
 use Rattle.channels.specs.Plan.{float, row_of}
@@ -26,4 +26,4 @@ returns-then-index-ge14 c = rw (entry_of_past c.args.index c.if-index-ge14.true)
 
 pub returns : goal.returns
 unfolding row_of float entry_of table round size span climb units odd count_trailing_zeros of_bits of_fields
-returns c = ap rowFrom (get_d_values numbersOf 14 c.args.index [] c.if-index-ge14.false)
+returns c = ap rowFrom (get_or_values numbersOf 14 c.args.index [] c.if-index-ge14.false)

@@ -3,7 +3,7 @@ use native.Mathlib.Omega.{arith}
 use lib.Bits.{bit_xor}
 use lib.ListN.{get_or}
 use Rattle.ground.proofs.InPlaceLaws.{in_place_start, in_place_next, in_place_end}
-use Rattle.ground.proofs.SumLaws.{length-xors, get_d_xors}
+use Rattle.ground.proofs.SumLaws.{length-xors, get_or-xors}
 use Rattle.mending.proofs.words.add.Goals as goal
 
 pub loop-i-init : goal.loop-i-init
@@ -23,7 +23,7 @@ loop-i-preserved c =
     let i = c.loop-i.i in
     in_place_next _ _ c.loop-i.invariant (omega (arith, c.requires, c.loop-i-test.true))
     (ap (bit_xor (get_or a.u.now i 0)) (c.loop-i.invariant.left i (omega arith))
-    ∙ sym (get_d_xors a.u.now a.v.now i c.requires))
+    ∙ sym (get_or-xors a.u.now a.v.now i c.requires))
 
 pub returns : goal.returns
 returns c =
