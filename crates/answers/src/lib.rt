@@ -1,12 +1,12 @@
 // Every refusal of documents 01 ("Answer numbers") and 02, once: its number, and the one value that it may carry.
-// A call answers its accepted cases or `Refused(Refusal)`, so that a caller passes a refusal on in one arm. What a call
-// can never answer is a theorem about its definition (crates/demands), not a type.
+// A call answers `Result<_, Refusal>`, so that a caller passes a refusal on with `?`. What a call can never answer is a
+// theorem about its definition (crates/demands), not a type.
 #![tactic(auto)]
 
 ghost use Rattle.std.specs.Prelude.{◌≡◌};
 ghost use Rattle.answers.specs.Refusals.{number_of, value_of};
 
-#[derive(Clone, Copy)]
+#[derive(Clone, Copy, Debug, PartialEq, Eq)]
 pub enum Refusal {
     // The bytes or chips end before the frame or its sync tail.
     Short,
@@ -58,72 +58,49 @@ pub enum Refusal {
     TooFar,
 }
 
-// What a writer answers: the bytes written.
-#[derive(Clone, Copy)]
-pub enum Written {
-    Accepted(usize),
-    Refused(Refusal),
-}
-
-pub fn number(refusal: Refusal) -> u8
-    ensures { result ≡ number_of refusal }
-{
-    match refusal {
-        Refusal::Short => 1,
-        Refusal::BadLength => 2,
-        Refusal::WrongCheck(_) => 3,
-        Refusal::NoRoom => 4,
-        Refusal::BadContent => 5,
-        Refusal::BadWord(_) => 6,
-        Refusal::NoSync(_) => 7,
-        Refusal::UnknownTail(_) => 8,
-        Refusal::BadPlace => 9,
-        Refusal::OutOfRange => 10,
-        Refusal::UnknownCi => 11,
-        Refusal::ShortBody => 12,
-        Refusal::NoSuchChannel => 13,
-        Refusal::UsedUp(_) => 14,
-        Refusal::BadStore => 17,
-        Refusal::UnknownVersion => 18,
-        Refusal::NotHeld => 19,
-        Refusal::Unsure => 20,
-        Refusal::NumbersUsedUp => 21,
-        Refusal::StoreFull => 22,
-        Refusal::TooLong => 23,
-        Refusal::UnknownCode => 24,
-        Refusal::NotCode => 25,
-        Refusal::TooFar => 26,
+impl Refusal {
+    pub fn number(self) -> u8
+        ensures { result ≡ number_of self }
+    {
+        match self {
+            Refusal::Short => 1,
+            Refusal::BadLength => 2,
+            Refusal::WrongCheck(_) => 3,
+            Refusal::NoRoom => 4,
+            Refusal::BadContent => 5,
+            Refusal::BadWord(_) => 6,
+            Refusal::NoSync(_) => 7,
+            Refusal::UnknownTail(_) => 8,
+            Refusal::BadPlace => 9,
+            Refusal::OutOfRange => 10,
+            Refusal::UnknownCi => 11,
+            Refusal::ShortBody => 12,
+            Refusal::NoSuchChannel => 13,
+            Refusal::UsedUp(_) => 14,
+            Refusal::BadStore => 17,
+            Refusal::UnknownVersion => 18,
+            Refusal::NotHeld => 19,
+            Refusal::Unsure => 20,
+            Refusal::NumbersUsedUp => 21,
+            Refusal::StoreFull => 22,
+            Refusal::TooLong => 23,
+            Refusal::UnknownCode => 24,
+            Refusal::NotCode => 25,
+            Refusal::TooFar => 26,
+        }
     }
-}
 
-// The value that goes with the number, 0 where the refusal carries none.
-pub fn value(refusal: Refusal) -> usize
-    ensures { result ≡ value_of refusal }
-{
-    match refusal {
-        Refusal::Short => 0,
-        Refusal::BadLength => 0,
-        Refusal::WrongCheck(block) => block,
-        Refusal::NoRoom => 0,
-        Refusal::BadContent => 0,
-        Refusal::BadWord(word) => word,
-        Refusal::NoSync(tried) => tried,
-        Refusal::UnknownTail(place) => place,
-        Refusal::BadPlace => 0,
-        Refusal::OutOfRange => 0,
-        Refusal::UnknownCi => 0,
-        Refusal::ShortBody => 0,
-        Refusal::NoSuchChannel => 0,
-        Refusal::UsedUp(tried) => tried,
-        Refusal::BadStore => 0,
-        Refusal::UnknownVersion => 0,
-        Refusal::NotHeld => 0,
-        Refusal::Unsure => 0,
-        Refusal::NumbersUsedUp => 0,
-        Refusal::StoreFull => 0,
-        Refusal::TooLong => 0,
-        Refusal::UnknownCode => 0,
-        Refusal::NotCode => 0,
-        Refusal::TooFar => 0,
+    // The value that goes with the number, 0 where the refusal carries none.
+    pub fn value(self) -> usize
+        ensures { result ≡ value_of self }
+    {
+        match self {
+            Refusal::WrongCheck(block) => block,
+            Refusal::BadWord(word) => word,
+            Refusal::NoSync(tried) => tried,
+            Refusal::UnknownTail(place) => place,
+            Refusal::UsedUp(tried) => tried,
+            _ => 0,
+        }
     }
 }
