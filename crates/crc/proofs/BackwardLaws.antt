@@ -21,6 +21,7 @@ use Rattle.std.specs.Prelude.{Result}
 use Rattle.answers.proofs.Settled.{settled}
 use Rattle.ground.proofs.XorLaws.{xor_odd, xor_cancel_r}
 use Rattle.ground.proofs.TableLaws.{all_below_at}
+use Rattle.answers.specs.declared.Refusal.{Refusal}
 use Rattle.crc.specs.Check.{bit_in, bits_in, byte_in, reg_of, check_of}
 use Rattle.crc.specs.CheckUpdate.{share_of, farthest, updating, Mends}
 use Rattle.crc.proofs.UpdateLaws.{updating_mends}

@@ -18,6 +18,7 @@ use lib.ListN.{length, take, get_or}
 use lib.Seq.{take_all}
 use Rattle.std.specs.Prelude.{Result, Ok}
 use Rattle.answers.specs.Outcome.{Outcome}
+use Rattle.answers.specs.declared.Refusal.{Refusal}
 use Rattle.ground.specs.Apart.{apart}
 use Rattle.ground.specs.Bytes.{Bytes}
 use Rattle.ground.proofs.CaseLaws.{by_test}

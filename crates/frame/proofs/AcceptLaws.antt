@@ -17,6 +17,7 @@ use borrow.Author.Tests.{ltb-false}
 use lib.Dec.{ltb}
 use lib.ListN.{length, take, drop, get_or, replicate, length-append, length-replicate, take-append-drop}
 use Rattle.std.specs.Prelude.{Result, Ok, Err, Option, Some, None}
+use Rattle.answers.specs.declared.Refusal.{Refusal}
 use Rattle.ground.proofs.CaseLaws.{zero_not_one}
 use Rattle.blocks.specs.Spans.{payload, first_wrong, size_of}
 use Rattle.blocks.proofs.SpanLaws.{first_wrong_framed, framed-payload}

@@ -7,6 +7,7 @@ use mathlib.Core.List.{List, [], ◌∷◌, map}
 use mathlib.Core.Path.{◌≡◌, refl}
 use Prim.Native.Nat.{ℕ}
 use Rattle.std.specs.Prelude.{Result, Ok, Err}
+use Rattle.answers.specs.declared.Refusal.{Refusal}
 use Rattle.crc.specs.Check.{bit_in, bits_in, byte_in, reg_of, check_of}
 use Rattle.blocks.specs.Spans.{sealed, framed, size_of, cut}
 use Rattle.frame.specs.declared.Format.{Format}
