@@ -61,3 +61,7 @@ pub word_value-requires : goal.word_value-requires
 word_value-requires c =
     let a = c.args in
     rw (c.narrow.ensures, ← c.width-w.ensures) (word_at_lt a.s.now a.at c.width-w.result)
+
+pub returns : goal.returns
+returns c =
+    c.ok_or.ensures.value ∙ sym (passed (goal.at.returns c).After-word_value)
