@@ -3,7 +3,7 @@ ghost use Rattle.std.specs.Prelude.{◌≡◌};
 ghost use Rattle.address.specs.Makers.{maker_of};
 ghost use Rattle.kusikhut.specs.Told.{told, told_maker, reach_number};
 
-use address::{Reach, Spelling};
+use address::Reach;
 
 fn reach_number(reach: Reach) -> u64
     ensures { result ≡ reach_number reach }
@@ -18,17 +18,10 @@ pub fn kusikhut_maker(m: u16, v: &mut [u64; 5]) -> u8
     ensures { told result v.new ≡ told_maker (maker_of m) }
 {
     let maker = address::maker_of(m);
-    let reach = maker.reach;
-    let spelled = maker.spelled;
-    let soft = reach_number(reach);
-    match spelled {
-        Spelling::Three(first, second, third) => {
-            *v = [1, first as u64, second as u64, third as u64, soft];
-            0
-        }
-        Spelling::NoLetters => {
-            *v = [0, 0, 0, 0, soft];
-            0
-        }
-    }
+    let soft = reach_number(maker.reach);
+    *v = match maker.spelled {
+        Some((first, second, third)) => [1, first as u64, second as u64, third as u64, soft],
+        None => [0, 0, 0, 0, soft],
+    };
+    0
 }
