@@ -11,7 +11,7 @@
 --     kind_number k       the kinds in the order of the header file
 --     reach_number r      hard 0, soft 1
 --     refusal_place n     where the row of a reception shows a refusal's value, by the refusal's number
-use Rattle.std.specs.Prelude.{cond, Bool, List, [], ◌∷◌, ◌++◌, ℕ, ◌×◌, ⊤, eqb, Float, replicate, set, Option, Some, None, Result, Ok, Err}
+use Rattle.std.specs.Prelude.{cond, Bool, List, [], ◌∷◌, ◌++◌, ℕ, ⊤, eqb, Float, replicate, set, Option, Some, None, Result, Ok, Err}
 use Rattle.answers.specs.Outcome.{Outcome}
 use Rattle.answers.specs.Refusals.{number_of, value_of}
 use Rattle.answers.specs.declared.Refusal.{Refusal}

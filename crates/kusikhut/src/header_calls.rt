@@ -31,7 +31,7 @@ impl Row<14> for (Header, usize) {
         let check = h.session.check;
         [
             n as u64,
-            header::ci_of(h.kind) as u64,
+            h.kind.ci() as u64,
             h.cc as u64,
             h.acc as u64,
             h.receiver.m as u64,

@@ -1,5 +1,5 @@
 // Frames as chips: receiving and sending, modes T and C first, then Manchester.
-ghost use Rattle.std.specs.Prelude.{◌≡◌, ◌×◌, [], ◌∷◌, ◌<◌};
+ghost use Rattle.std.specs.Prelude.{◌≡◌, [], ◌∷◌, ◌<◌};
 ghost use Rattle.sync.specs.declared.Kind.TheVariants.{TWithA, CWithA, CWithB, ManchesterWithA};
 ghost use Rattle.kusikhut.specs.Told.{told, shown, kind_number, refusal_place, told_reception};
 ghost use Rattle.kusikhut.specs.Calls.{call_receive, call_manchester, call_send};

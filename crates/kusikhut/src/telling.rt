@@ -6,7 +6,7 @@ ghost use Rattle.kusikhut.specs.Told.{told, told_answer};
 use answers::Refusal;
 
 // An accepted answer that shows itself in a row of W results.
-pub trait Row<const W: usize> {
+pub(crate) trait Row<const W: usize> {
     ghost shows: { Self → List ℕ };
 
     fn row(self) -> [u64; W]
@@ -14,7 +14,7 @@ pub trait Row<const W: usize> {
 }
 
 // The number of an answer. Its row is left in v; that of a refusal has its value at `place` and zeros elsewhere.
-pub fn tell_at<T: Row<W>, const W: usize>(
+pub(crate) fn tell_at<T: Row<W>, const W: usize>(
     answer: Result<T, Refusal>,
     place: usize,
     v: &mut [u64; W],
@@ -36,7 +36,7 @@ pub fn tell_at<T: Row<W>, const W: usize>(
 }
 
 // The same, a refusal's value first.
-pub fn tell<T: Row<W>, const W: usize>(answer: Result<T, Refusal>, v: &mut [u64; W]) -> u8
+pub(crate) fn tell<T: Row<W>, const W: usize>(answer: Result<T, Refusal>, v: &mut [u64; W]) -> u8
     requires { 0 < W }
     ensures { told result v.new ≡ told_answer W (λ r. 0) T.shows answer }
 {
