@@ -22,14 +22,14 @@ from pathlib import Path
 ASKING = {"chips::word", "chips::narrow", "blocks::first_wrong", "blocks::copy_part", "blocks::take_out",
           "blocks::put_all", "blocks::set_byte", "address::two_at", "address::name_at", "address::put_four",
           "address::put_name", "address::four_at", "address::key_at", "address::put_number", "address::put_key",
-          "products::times", "products::times_power", "products::ratio", "products::value_at", "products::combine",
+          "products::Tables::times_power", "products::Tables::ratio", "products::Tables::value_at",
+          "products::Tables::combine",
           "locating::locate", "repairing::repair"}
 # clauses beside the equation, by name: document 01's own words on the update (D20); they allow no other answer
 BESIDE = {("crc::update", "mends")}
 # facts that settle and are no equation with a definition, word for word: a byte is itself, and below 256; the other
 # two by theorems of their own (products/proofs/SettledLaws)
-OTHERWISE = {"chips::wide": ["result ≡ b", "result < 256"], "products::ratio": ["mul result b ≡ a"],
-             "products::tables_lent": ["TablesOk result.powers result.logs"]}
+OTHERWISE = {"chips::wide": ["result ≡ b", "result < 256"], "products::Tables::ratio": ["mul result b ≡ a"]}
 # public functions that leave something open, and on purpose (D111): nobody sees it but the crate above. None of them is
 # an entry point or exported
 LEFT_OPEN = {"locating::locate", "repairing::repair"}
@@ -62,7 +62,7 @@ def imports(crate, text):
 def functions(crate, text):
     """The public functions of a source file; a method has its type's name before its own."""
     for m in FUNCTION.finditer(text):
-        types = re.findall(r"^impl (\w+)", text[:m.start()], re.M) if m[1] else []
+        types = re.findall(r"^impl(?:<[^>]*>)? (\w+)", text[:m.start()], re.M) if m[1] else []
         yield Function("::".join([crate, *types[-1:], m[3]]), bool(m[2]), m[4], imports(crate, text))
 
 
