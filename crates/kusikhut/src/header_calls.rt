@@ -8,17 +8,12 @@ ghost use Rattle.kusikhut.specs.Calls.{header_of, call_header};
 
 use crate::telling::{Row, tell};
 use address::{Address, Name};
-use header::{Access, Header, HeaderKind, PayloadCheck, Session};
+use header::{Header, HeaderKind, PayloadCheck, Session};
 
 pub fn kusikhut_access(cc: u8) -> u8
     ensures { result ≡ access_row (access_of cc) }
 {
-    match header::announced(cc) {
-        Access::NoAccess => 0,
-        Access::NoneForNow => 1,
-        Access::Limited => 2,
-        Access::Unlimited => 3,
-    }
+    header::announced(cc) as u8
 }
 
 // The header's length and its fields.
@@ -31,19 +26,19 @@ impl Row<14> for (Header, usize) {
         let check = h.session.check;
         [
             n as u64,
-            h.kind.ci() as u64,
-            h.cc as u64,
-            h.acc as u64,
-            h.receiver.m as u64,
-            a.0 as u64,
-            a.1 as u64,
-            a.2 as u64,
-            a.3 as u64,
-            a.4 as u64,
-            a.5 as u64,
-            h.session.sn as u64,
-            check.0 as u64,
-            check.1 as u64,
+            u64::from(h.kind.ci()),
+            u64::from(h.cc),
+            u64::from(h.acc),
+            u64::from(h.receiver.m),
+            u64::from(a.0),
+            u64::from(a.1),
+            u64::from(a.2),
+            u64::from(a.3),
+            u64::from(a.4),
+            u64::from(a.5),
+            u64::from(h.session.sn),
+            u64::from(check.0),
+            u64::from(check.1),
         ]
     }
 }

@@ -9,17 +9,6 @@ use answers::Refusal;
 use radio::Reception;
 use sync::Kind;
 
-fn kind_number(kind: Kind) -> u64
-    ensures { result ≡ kind_number kind }
-{
-    match kind {
-        Kind::TWithA => 0,
-        Kind::CWithA => 1,
-        Kind::CWithB => 2,
-        Kind::ManchesterWithA => 3,
-    }
-}
-
 // Where the row shows a refusal's value, by the refusal's number.
 fn refusal_place(number: u8) -> usize
     ensures { (result ≡ refusal_place number) × (result < 7) }
@@ -32,12 +21,13 @@ fn refusal_place(number: u8) -> usize
     }
 }
 
+// The kind by its number in the header file, which is its place in `Kind`.
 impl Row<7> for Reception {
     ghost shows = { λ a. kind_number a.kind ∷ a.place ∷ a.tried ∷ a.size ∷ a.n ∷ 0 ∷ 0 ∷ [] };
 
     fn row(self) -> [u64; 7] {
         [
-            kind_number(self.kind),
+            self.kind as u64,
             self.place as u64,
             self.tried as u64,
             self.size as u64,
