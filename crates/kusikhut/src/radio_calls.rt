@@ -1,5 +1,6 @@
 // Frames as chips: receiving and sending, modes T and C first, then Manchester.
 ghost use Rattle.std.specs.Prelude.{◌≡◌, [], ◌∷◌, ◌<◌};
+ghost use Rattle.answers.specs.Refusals.{number_of};
 ghost use Rattle.sync.specs.declared.Kind.TheVariants.{TWithA, CWithA, CWithB, ManchesterWithA};
 ghost use Rattle.kusikhut.specs.Told.{told, shown, kind_number, refusal_place, told_reception};
 ghost use Rattle.kusikhut.specs.Calls.{call_receive, call_manchester, call_send};
@@ -9,14 +10,14 @@ use answers::Refusal;
 use radio::Reception;
 use sync::Kind;
 
-// Where the row shows a refusal's value, by the refusal's number.
-fn refusal_place(number: u8) -> usize
-    ensures { (result ≡ refusal_place number) × (result < 7) }
+// Where the row shows a refusal's value.
+fn refusal_place(why: Refusal) -> usize
+    ensures { (result ≡ refusal_place (number_of why)) × (result < 7) }
 {
-    match number {
-        3 => 5,
-        6 => 6,
-        8 => 1,
+    match why {
+        Refusal::WrongCheck(_) => 5,
+        Refusal::BadWord(_) => 6,
+        Refusal::UnknownTail(_) => 1,
         _ => 2,
     }
 }
@@ -43,7 +44,7 @@ fn tell_reception(answer: Result<Reception, Refusal>, v: &mut [u64; 7]) -> u8
 {
     let place = match answer {
         Ok(_) => 0,
-        Err(why) => refusal_place(why.number()),
+        Err(why) => refusal_place(why),
     };
     tell_at(answer, place, v)
 }
