@@ -18,13 +18,12 @@ pub fn kusikhut_row(index: usize, v: &mut [f64; 3])
 pub fn kusikhut_centre(index: usize, channel: usize, v: &mut [f64; 1]) -> u8
     ensures { told result v.new ≡ told_centre (centre_of index channel) }
 {
-    let centre = channels::centre_of(index, channel);
-    *v = [centre.unwrap_or(0.0)];
-    if centre.is_some() {
-        0
-    } else {
-        Refusal::NoSuchChannel.number()
-    }
+    let Some(khz) = channels::centre_of(index, channel) else {
+        *v = [0.0];
+        return Refusal::NoSuchChannel.number();
+    };
+    *v = [khz];
+    0
 }
 
 impl Row<3> for Line {
