@@ -12,6 +12,7 @@ ghost use Rattle.frame.specs.Writes.{writing_of};
 ghost use Rattle.frame.specs.Changes.{changing_of};
 
 use answers::Refusal;
+use blocks::Cut;
 
 // The two frame formats.
 #[derive(Clone, Copy, Debug, PartialEq, Eq)]
@@ -122,23 +123,19 @@ impl FormatB {
 }
 
 impl Format {
-    // How many bytes the first check covers at most, L included.
-    fn first(self) -> usize
-        ensures { result ≡ (form_of self).first }
+    // How many bytes the first check covers at most, L included, and how many each later one.
+    fn cut(self) -> Cut
+        ensures { (result.first ≡ (form_of self).first) × (result.later ≡ (form_of self).later) }
     {
         match self {
-            Format::A => FormatA::FIRST,
-            Format::B => FormatB::FIRST,
-        }
-    }
-
-    // How many bytes each later check covers at most.
-    fn later(self) -> usize
-        ensures { result ≡ (form_of self).later }
-    {
-        match self {
-            Format::A => FormatA::LATER,
-            Format::B => FormatB::LATER,
+            Format::A => Cut {
+                first: FormatA::FIRST,
+                later: FormatA::LATER,
+            },
+            Format::B => Cut {
+                first: FormatB::FIRST,
+                later: FormatB::LATER,
+            },
         }
     }
 
@@ -202,7 +199,7 @@ pub fn judge(f: Format, s: &[u8]) -> Result<Frame, Refusal>
     if s.len() < frame.size {
         return Err(Refusal::Short);
     }
-    match blocks::first_wrong(s, f.first(), f.later(), frame.n + 1) {
+    match f.cut().first_wrong(s, frame.n + 1) {
         Some(block) => Err(Refusal::WrongCheck(block)),
         None => Ok(frame),
     }
@@ -216,7 +213,7 @@ pub fn read(f: Format, s: &[u8], out: &mut [u8]) -> Result<Frame, Refusal>
     if out.len() < frame.n {
         return Err(Refusal::NoRoom);
     }
-    blocks::take_out(s, f.first(), f.later(), frame.n, out);
+    f.cut().take_out(s, frame.n, out);
     Ok(frame)
 }
 
@@ -235,7 +232,7 @@ pub fn write(f: Format, content: &[u8], out: &mut [u8]) -> Result<usize, Refusal
     if out.len() < size {
         return Err(Refusal::NoRoom);
     }
-    blocks::put_all(f.length_byte(n), content, f.first(), f.later(), out);
+    f.cut().put_all(f.length_byte(n), content, out);
     Ok(size)
 }
 
@@ -247,6 +244,6 @@ pub fn change(f: Format, s: &mut [u8], place: usize, byte: u8) -> Result<Frame, 
     if frame.n <= place {
         return Err(Refusal::BadPlace);
     }
-    blocks::set_byte(s, f.first(), f.later(), frame.n + 1, place + 1, byte);
+    f.cut().set_byte(s, frame.n + 1, place + 1, byte);
     Ok(frame)
 }

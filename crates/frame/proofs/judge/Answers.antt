@@ -20,7 +20,7 @@ checked :
     by_checks frame.size frame.n c.first_wrong.result ≡ judge_of a.f a.s.now
 checked c =
     let a = c.args in
-    ap (by_checks _ _) (rw (c.first.ensures, c.later.ensures) at c.first_wrong.ensures)
+    ap (by_checks _ _) (rw (c.cut.ensures.0, c.cut.ensures.1) at c.first_wrong.ensures)
     ∙ sym (judge_of_whole a.f a.s.now (search rules) (sym c.in_ok-frame.ensures) c.if-s-frame.false)
 
 pub returns-then-is_empty : goal.returns-then-is_empty
@@ -43,10 +43,8 @@ first_wrong-requires c =
     let a = c.args in
     let p = size_for_accepted a.f _ (sym c.in_ok-frame.ensures) in
     let fits : frame_size a.f c.in_ok-frame.frame.n ≤ length a.s.now
-    = omega (arith, p.size, c.if-s-frame.false) in (
-      rw c.first.ensures (omega (arith, one-lt_first a.f)),
-      (rw c.later.ensures (zero-lt_later a.f), rw (c.first.ensures, c.later.ensures) fits),
-    )
+    = omega (arith, p.size, c.if-s-frame.false) in
+    rw (c.cut.ensures.0, c.cut.ensures.1) fits
 
 pub returns-in-Some : goal.returns-in-Some
 unfolding by_checks

@@ -53,11 +53,7 @@ pub put_all-requires : goal.put_all-requires
 unfolding frame_size
 put_all-requires c =
     let a = c.args in
-    let first = c.first.ensures in
-    let later = c.later.ensures in (
-      rw first (one-lt_first a.f),
-      (rw later (zero-lt_later a.f), rw (first, later) (room (goal.at.put_all-requires c).Else-out-size)),
-    )
+    rw (c.cut.ensures.0, c.cut.ensures.1) (one-lt_first a.f, room (goal.at.put_all-requires c).Else-out-size)
 
 pub returns : goal.returns
 unfolding frame_of frame_size
@@ -65,8 +61,8 @@ returns c =
     let a = c.args in
     rw (
       c.put_all.ensures,
-      c.first.ensures,
-      c.later.ensures,
+      c.cut.ensures.0,
+      c.cut.ensures.1,
       c.length_byte.ensures,
       c.size-size.ensures,
     )
