@@ -3,7 +3,7 @@
 use mathlib.Core.Path.{sym}
 use native.Mathlib.Omega.{arith}
 use borrow.Author.Rules.{rules}
-use Rattle.frame.proofs.FormatLaws.{one-lt_first, first-le, zero-lt_later, later-le, longest-le}
+use Rattle.frame.proofs.FormatLaws.{first-le, later-le, longest-le}
 use Rattle.frame.proofs.AcceptLaws.{judge_of-accepted, whole_room}
 use Rattle.frame.proofs.ChangeLaws.{changing_of_refused, changing_of_bad_place, change_mends}
 use Rattle.frame.proofs.change.Goals as goal

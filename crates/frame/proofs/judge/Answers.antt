@@ -7,7 +7,6 @@ use borrow.Author.Rules.{rules}
 use lib.ListN.{length}
 use Rattle.frame.specs.Formats.{frame_size}
 use Rattle.frame.specs.Judging.{by_checks, judge_of}
-use Rattle.frame.proofs.FormatLaws.{one-lt_first, zero-lt_later, longest-le}
 use Rattle.frame.proofs.JudgeLaws.{size_for_accepted, judge_of-nil, judge_of_refused, judge_of_short, judge_of_whole}
 use Rattle.frame.proofs.judge.Goals.{After-first_wrong}
 use Rattle.frame.proofs.judge.Goals as goal

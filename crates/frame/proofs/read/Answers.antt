@@ -3,7 +3,7 @@
 use mathlib.Core.Path.{sym}
 use borrow.Author.Rules.{rules}
 use Rattle.frame.specs.Frames.{content_in}
-use Rattle.frame.proofs.FormatLaws.{one-lt_first, zero-lt_later}
+use Rattle.frame.proofs.FormatLaws.{one-lt_first}
 use Rattle.frame.proofs.AcceptLaws.{judge_of-accepted, whole_room}
 use Rattle.frame.proofs.ReadLaws.{reading_of_refused, reading_of_no_room, reading_of_accepted}
 use Rattle.frame.proofs.read.Goals as goal

@@ -6,7 +6,7 @@ use native.Mathlib.Omega.{arith}
 use lib.ListN.{length}
 use Rattle.frame.specs.Formats.{form_of, frame_size}
 use Rattle.frame.specs.Frames.{frame_of}
-use Rattle.frame.proofs.FormatLaws.{one-lt_first, zero-lt_later}
+use Rattle.frame.proofs.FormatLaws.{one-lt_first}
 use Rattle.frame.proofs.WriteLaws.{writing_of_short, writing_of_long, writing_of_no_room, writing_of-accepted}
 use Rattle.frame.proofs.write.Goals.{Else-longest-n, Else-n-shortest, Else-out-size}
 use Rattle.frame.proofs.write.Goals as goal
