@@ -1,13 +1,8 @@
 -- Values combined: `Combining` is the loop's invariant, the sum so far, with its turn and end.
 -- Assumes nothing.
-use mathlib.Core.List.{List}
-use mathlib.Core.Path.{◌≡◌, sym, ap, ap₂, ◌∙◌}
-use Prim.Native.Nat.{ℕ, suc, ◌+◌, ◌-◌, ◌≤◌, ◌<◌}
-use native.Mathlib.Numerals.{add-one}
-use native.Mathlib.Omega.{arith}
-use lib.Bits.{bit_xor, xor_zero_r}
-use lib.ListN.{length, get_or, drop, length-drop, drop_of_length-le}
-use lib.Seq.{drop-cons}
+use Rattle.std.proofs.Common.{List, ◌≡◌, sym, ap, ap₂, ◌∙◌, ℕ, suc, ◌+◌, ◌-◌, ◌≤◌, ◌<◌, add-one, arith, bit_xor, length}
+use Rattle.std.proofs.Common.{get_or, drop, length-drop, drop_of_length-le, drop-cons}
+use lib.Bits.{xor_zero_r}
 use Rattle.ground.proofs.XorLaws.{xor_assoc}
 use Rattle.field.specs.Field.{mul}
 use Rattle.locators.specs.Combinations.{combined}

@@ -1,8 +1,7 @@
 -- `products::tables::Tables::value_at` meets its contract: after each byte, what was folded is the value of the bytes so
 -- far. Assumes nothing.
-use Rattle.std.proofs.Common.{◌≡◌, ◌++◌, ◌∷◌, [], ℕ, List, ap, ◌∙◌, sym, refl, rules, subst}
+use Rattle.std.proofs.Common.{◌≡◌, ◌++◌, ◌∷◌, [], ℕ, List, ap, ◌∙◌, sym, refl, rules, subst, bit_xor}
 use Rattle.std.proofs.lemmas.Fn.{fold_over, slice_gives, fronts}
-use lib.Bits.{bit_xor}
 use Rattle.field.specs.Field.{alpha_to, mul}
 use Rattle.field.specs.Polynomials.{eval_from, value_at}
 use Rattle.field.proofs.PolynomialLaws.{eval_append}
