@@ -18,6 +18,7 @@ use Rattle.std.proofs.Common.{get_or-drop}
 use Rattle.std.specs.Prelude.{◌==◌, not, count_by, zip}
 use Rattle.std.specs.Cmp.Lexicographic.{pointwise}
 use Rattle.std.proofs.lemmas.Bool.Decides.{Decides-eqb, same_from_decides}
+use Rattle.std.proofs.lemmas.List.Sums.{sum_by-cons}
 use Rattle.std.proofs.lemmas.Slice.Eq.{slice_eq-Decides}
 use lib.Bits.{bit_xor, xor_comm}
 use lib.ListN.{length, get_or, take, drop, set, length-drop, take-append-drop, drop_of_length-le, replicate}
@@ -44,7 +45,9 @@ pub count_apart : (u v : List ℕ) → count_by (λ (p : ℕ × ℕ). not (p.0 =
 unfolding apart
 count_apart [] v = refl
 count_apart (x ∷ u) [] = refl
-count_apart (x ∷ u) (y ∷ v) = ap₂ ◌+◌ (by (eqb x y)) (count_apart u v)
+count_apart (x ∷ u) (y ∷ v) =
+    sum_by-cons {X = ℕ × ℕ} (λ p. cond (not (p.0 == p.1)) 1 0) (x, y) (zip u v)
+    ∙ ap₂ ◌+◌ (by (eqb x y)) (count_apart u v)
   where
     by : (t : Bool) → ◌≡◌ {A = ℕ} (cond (not t) 1 0) (cond t 0 1)
     by true = refl
