@@ -12,8 +12,8 @@
 --     adds_start         the bytes from the start on
 --     adds_two, adds_four, adds_only   two words of four bytes; two more behind others; two that are all
 --     group_behind       sixteen bytes behind a word
---     adds_all, adds_front, lead_behind, group_append
---                        the bytes of a list of their own: all, in front of others; one turn of the loop over groups
+--     adds_all, adds_front, adds_taken    all bytes of a list, bytes in front of others, the first k
+--     lead_behind, group_append    what stands before the groups; one turn of the loop over them
 -- Assumes nothing.
 use mathlib.Core.Path.{◌≡◌, sym, ap, ap₂, ◌∙◌}
 use mathlib.Core.List.{List, [], ◌++◌}
@@ -21,8 +21,8 @@ use Prim.Native.Nat.{ℕ, ◌+◌, ◌*◌, ◌-◌, ◌/◌, ◌%◌, ◌^◌, 
 use native.Mathlib.Nat.{zero-add, add-zero, add_assoc, mod-lt}
 use native.Mathlib.Omega.{arith}
 use lib.Bits.{bit_xor, xor_comm, xor_zero_r, xor_shifted}
-use lib.ListN.{length, drop, get_or, drop_of_length-le}
-use lib.Seq.{drop_at}
+use lib.ListN.{length, take, drop, get_or, drop_of_length-le, take-append-drop}
+use lib.Seq.{drop_at, length-take-le}
 use lib.Pow.{shr_lt, split, pow_pos, pow-add}
 use Rattle.ground.proofs.XorLaws.{xor_assoc}
 use Rattle.crc.specs.Check.{bits_in, byte_in, reg_of}
@@ -197,6 +197,13 @@ adds_front x t k z size adds r =
     let end : drop k x ≡ [] = drop_of_length-le x {i = k} (omega arith) in
     rw (none, drop_at x t k size)
     (reg_of_append r x t ∙ ap (λ (y : ℕ). reg_of y t) (rw (none, end) at (adds r)))
+
+-- the first k bytes
+pub adds_taken :
+    (s : List ℕ) (k z : ℕ) → k ≤ length s → Adds (take k s) 0 (length (take k s)) z → Adds s 0 k z
+adds_taken s k z fits adds =
+    let size : length (take k s) ≡ k = length-take-le k s fits in
+    rw (take-append-drop k s) at (adds_front (take k s) (drop k s) k z size (rw size at adds))
 
 pub lead_behind : (x t : List ℕ) (k z : ℕ) → length x ≡ k → Adds x 0 k z → reg_of z t ≡ reg_of 0 (x ++ t)
 lead_behind x t k z size adds =

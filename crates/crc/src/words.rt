@@ -7,14 +7,14 @@ ghost use Rattle.std.specs.Int.Bits.{bit_xor};
 ghost use Rattle.crc.specs.Check.{bits_in};
 ghost use Rattle.crc.specs.Inner.{remainder, nested, Adds, folded};
 
-// The first k bytes as one number, the first one highest.
-fn number(s: &[u8], k: usize) -> u64
-    requires { (k < 8) × (k ≤ length s.now) }
-    ensures { Adds s.now 0 k (bits_in 16 (remainder result)) × (result < 2 ^ (8 * k)) }
+// Fewer bytes than eight as one number, the first one highest.
+fn number(s: &[u8]) -> u64
+    requires { length s.now < 8 }
+    ensures { Adds s.now 0 (length s.now) (bits_in 16 (remainder result)) × (result < 2 ^ (8 * length s.now)) }
 {
     let mut w: u64 = 0;
-    for i in 0..k {
-        w = w * 256 + u64::from(s[i]);
+    for b in s {
+        w = w * 256 + u64::from(*b);
     }
     w
 }
@@ -86,7 +86,7 @@ pub(crate) fn lead(s: &[u8]) -> u64
     ensures upper_bound { result < folded }
 {
     let rest = s.len() % 8;
-    let w = number(s, rest);
+    let w = number(&s[..rest]);
     let high = w >> 32;
     let low = w % 0x1_0000_0000;
     if s.len() < 8 {
