@@ -10,6 +10,7 @@ ghost use Rattle.filter.specs.Listed.{verdict_of};
 
 use answers::Refusal;
 
+// Whether the name is one of the entries. All eight bytes are compared as received (document 02, 2/14).
 fn is_listed(name: &[u8], entries: &[[u8; 8]]) -> bool
     ensures { result ≡ list_any (λ e. bytes_eq e name.now) entries.now }
 {
