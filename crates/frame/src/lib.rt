@@ -1,93 +1,115 @@
 // Frames in formats A and B as bytes: read, write, change (EN 13757-4:2019, 12.2 to 12.5; document 01, "Frames",
 // "Changing a byte"). Refusals are those of crate `answers`.
-// What differs between the formats stands in `FormatA` and `FormatB`; all else is written once.
+// What differs between the formats stands in the two impls of `FrameFormat`; all else is written once.
 #![tactic(auto)]
 
 ghost use Rattle.std.specs.Prelude.{◌≡◌, ◌≤◌};
-ghost use Rattle.answers.specs.Outcome.{Outcome};
+ghost use Rattle.answers.specs.Outcome.{leaving};
+ghost use Rattle.frame.specs.declared.Format.{Format};
+ghost use Rattle.frame.specs.declared.Format.TheVariants.{A, B};
 ghost use Rattle.frame.specs.Formats.{form_of, frame_size, size_for};
 ghost use Rattle.frame.specs.Judging.{judge_of};
 ghost use Rattle.frame.specs.Reads.{reading_of};
 ghost use Rattle.frame.specs.Writes.{writing_of};
 ghost use Rattle.frame.specs.Changes.{changing_of};
 
-use answers::{Refusal, Written};
-use blocks::Checks;
+use answers::Refusal;
+use blocks::Cut;
 
 // The two frame formats.
-#[derive(Clone, Copy)]
+#[derive(Clone, Copy, Debug, PartialEq, Eq)]
 pub enum Format {
     A,
     B,
 }
 
-// What a length byte or a buffer says of a frame: its size and that of its content, or why there is none.
-#[derive(Clone, Copy)]
-pub enum Frame {
-    Accepted { size: usize, n: usize },
-    Refused(Refusal),
+// What a length byte or a buffer says of a frame: its size and that of its content.
+#[derive(Clone, Copy, Debug, PartialEq, Eq)]
+pub struct Frame {
+    pub size: usize,
+    pub n: usize,
+}
+
+// What a format settles: its limits, and what a content's length and a length byte say of one another and of the frame.
+pub trait FrameFormat {
+    // Which of the two it is.
+    ghost format: { Format };
+
+    // The shortest and the longest content.
+    const SHORTEST: usize;
+
+    const LONGEST: usize;
+
+    // How many bytes the first check covers at most, L counted, and how many each later one.
+    const FIRST: usize;
+
+    const LATER: usize;
+
+    // L of a content of n bytes.
+    fn length_byte(n: usize) -> u8
+        requires { n ≤ (form_of format).longest }
+        ensures { result ≡ (form_of format).length_byte n };
+
+    // The size of a frame whose content has n bytes.
+    fn size(n: usize) -> usize
+        requires { n ≤ (form_of format).longest }
+        ensures { result ≡ frame_size format n };
+
+    // The size of the frame that begins with the length byte l, and of its content.
+    fn frame_size(l: u8) -> Result<Frame, Refusal>
+        ensures { result ≡ size_for format l };
 }
 
 // Format A: L counts no check; L and nine bytes have the first check, every 16 bytes after them one more.
-#[derive(Clone, Copy)]
+#[derive(Clone, Copy, Debug, PartialEq, Eq)]
 pub struct FormatA {}
 
-impl FormatA {
-    // The shortest and the longest content.
-    pub const SHORTEST: usize = 10;
+impl FrameFormat for FormatA {
+    ghost format = { A };
 
-    pub const LONGEST: usize = 255;
+    const SHORTEST: usize = 10;
 
-    // How many bytes the first check covers at most, L counted, and how many each later one.
-    pub const FIRST: usize = 10;
+    const LONGEST: usize = 255;
 
-    pub const LATER: usize = 16;
+    const FIRST: usize = 10;
 
-    fn length_byte(n: usize) -> u8
-        requires { n ≤ (form_of Format.A).longest }
-        ensures { result ≡ (form_of Format.A).length_byte n }
-    {
+    const LATER: usize = 16;
+
+    fn length_byte(n: usize) -> u8 {
         n as u8
     }
 
     // L, content and the first check, and a check for each begun 16 of the n - 9 bytes behind the first span.
-    fn size(n: usize) -> usize
-        requires { n ≤ (form_of Format.A).longest }
-        ensures { result ≡ frame_size Format.A n }
-    {
+    fn size(n: usize) -> usize {
         n + 3 + 2 * ((n + 6) / 16)
     }
 
-    pub fn frame_size(l: u8) -> Frame
-        ensures { result ≡ size_for Format.A l }
-    {
-        let n = l as usize;
+    fn frame_size(l: u8) -> Result<Frame, Refusal> {
+        let n = usize::from(l);
         if n < Self::SHORTEST {
-            return Frame::Refused(Refusal::BadLength);
+            return Err(Refusal::BadLength);
         }
         let size = Self::size(n);
-        Frame::Accepted { size, n }
+        Ok(Frame { size, n })
     }
 }
 
 // Format B: L counts the checks; L and 125 bytes have the first check, what comes after them the second.
-#[derive(Clone, Copy)]
+#[derive(Clone, Copy, Debug, PartialEq, Eq)]
 pub struct FormatB {}
 
-impl FormatB {
-    // As for format A.
-    pub const SHORTEST: usize = 10;
+impl FrameFormat for FormatB {
+    ghost format = { B };
 
-    pub const LONGEST: usize = 251;
+    const SHORTEST: usize = 10;
 
-    pub const FIRST: usize = 126;
+    const LONGEST: usize = 251;
 
-    pub const LATER: usize = 126;
+    const FIRST: usize = 126;
 
-    fn length_byte(n: usize) -> u8
-        requires { n ≤ (form_of Format.B).longest }
-        ensures { result ≡ (form_of Format.B).length_byte n }
-    {
+    const LATER: usize = 126;
+
+    fn length_byte(n: usize) -> u8 {
         if n < Self::FIRST {
             (n + 2) as u8
         } else {
@@ -95,51 +117,42 @@ impl FormatB {
         }
     }
 
-    fn size(n: usize) -> usize
-        requires { n ≤ (form_of Format.B).longest }
-        ensures { result ≡ frame_size Format.B n }
-    {
+    fn size(n: usize) -> usize {
         if n < Self::FIRST { n + 3 } else { n + 5 }
     }
 
-    pub fn frame_size(l: u8) -> Frame
-        ensures { result ≡ size_for Format.B l }
-    {
-        let l = l as usize;
+    fn frame_size(l: u8) -> Result<Frame, Refusal> {
+        let l = usize::from(l);
         let size = l + 1;
         if l < Self::SHORTEST + 2 {
-            return Frame::Refused(Refusal::BadLength);
+            return Err(Refusal::BadLength);
         }
         if l < Self::FIRST + 2 {
             let n = l - 2;
-            return Frame::Accepted { size, n };
+            return Ok(Frame { size, n });
         }
         if l < Self::FIRST + 4 {
-            return Frame::Refused(Refusal::BadLength);
+            return Err(Refusal::BadLength);
         }
         let n = l - 4;
-        Frame::Accepted { size, n }
+        Ok(Frame { size, n })
     }
 }
 
 impl Format {
-    // How many bytes the first check covers at most, L included.
-    fn first(self) -> usize
-        ensures { result ≡ (form_of self).first }
+    // How many bytes the first check covers at most, L included, and how many each later one.
+    fn cut(self) -> Cut
+        ensures { (result.first ≡ (form_of self).first) × (result.later ≡ (form_of self).later) }
     {
         match self {
-            Format::A => FormatA::FIRST,
-            Format::B => FormatB::FIRST,
-        }
-    }
-
-    // How many bytes each later check covers at most.
-    fn later(self) -> usize
-        ensures { result ≡ (form_of self).later }
-    {
-        match self {
-            Format::A => FormatA::LATER,
-            Format::B => FormatB::LATER,
+            Format::A => Cut {
+                first: FormatA::FIRST,
+                later: FormatA::LATER,
+            },
+            Format::B => Cut {
+                first: FormatB::FIRST,
+                later: FormatB::LATER,
+            },
         }
     }
 
@@ -182,7 +195,7 @@ impl Format {
     }
 
     // The size of the frame that begins with the length byte l, and of its content.
-    pub fn frame_size(self, l: u8) -> Frame
+    pub fn frame_size(self, l: u8) -> Result<Frame, Refusal>
         ensures { result ≡ size_for self l }
     {
         match self {
@@ -193,76 +206,61 @@ impl Format {
 }
 
 // Does s begin with a frame? s may be longer.
-pub fn judge(f: Format, s: &[u8]) -> Frame
+pub fn judge(f: Format, s: &[u8]) -> Result<Frame, Refusal>
     ensures { result ≡ judge_of f s.now }
 {
-    if s.len() == 0 {
-        return Frame::Refused(Refusal::Short);
+    if s.is_empty() {
+        return Err(Refusal::Short);
     }
-    match f.frame_size(s[0]) {
-        Frame::Refused(r) => Frame::Refused(r),
-        Frame::Accepted { size, n } => {
-            if s.len() < size {
-                return Frame::Refused(Refusal::Short);
-            }
-            match blocks::first_wrong(s, f.first(), f.later(), n + 1) {
-                Checks::Wrong(block) => Frame::Refused(Refusal::WrongCheck(block)),
-                Checks::Right => Frame::Accepted { size, n },
-            }
-        }
+    let frame = f.frame_size(s[0])?;
+    if s.len() < frame.size {
+        return Err(Refusal::Short);
+    }
+    match f.cut().first_wrong(s, frame.n + 1) {
+        Some(block) => Err(Refusal::WrongCheck(block)),
+        None => Ok(frame),
     }
 }
 
 // Reads the frame that s begins with: its content stands in the first n bytes of out then, the others stay.
-pub fn read(f: Format, s: &[u8], out: &mut [u8]) -> Frame
-    ensures { ◌≡◌ {A = Outcome Frame} (record { answer = result; memory = out.new })
-        (reading_of f s.now out.old) }
+pub fn read(f: Format, s: &[u8], out: &mut [u8]) -> Result<Frame, Refusal>
+    ensures { leaving result out.new ≡ reading_of f s.now out.old }
 {
-    match judge(f, s) {
-        Frame::Refused(r) => Frame::Refused(r),
-        Frame::Accepted { size, n } => {
-            if out.len() < n {
-                return Frame::Refused(Refusal::NoRoom);
-            }
-            blocks::take_out(s, f.first(), f.later(), n, out);
-            Frame::Accepted { size, n }
-        }
+    let frame = judge(f, s)?;
+    if out.len() < frame.n {
+        return Err(Refusal::NoRoom);
     }
+    f.cut().take_out(s, frame.n, out);
+    Ok(frame)
 }
 
 // Writes the frame of the content from the first byte of out on; the bytes after it stay.
-pub fn write(f: Format, content: &[u8], out: &mut [u8]) -> Written
-    ensures { ◌≡◌ {A = Outcome Written} (record { answer = result; memory = out.new })
-        (writing_of f content.now out.old) }
+pub fn write(f: Format, content: &[u8], out: &mut [u8]) -> Result<usize, Refusal>
+    ensures { leaving result out.new ≡ writing_of f content.now out.old }
 {
     let n = content.len();
     if n < f.shortest() {
-        return Written::Refused(Refusal::BadContent);
+        return Err(Refusal::BadContent);
     }
     if f.longest() < n {
-        return Written::Refused(Refusal::BadContent);
+        return Err(Refusal::BadContent);
     }
     let size = f.size(n);
     if out.len() < size {
-        return Written::Refused(Refusal::NoRoom);
+        return Err(Refusal::NoRoom);
     }
-    blocks::put_all(f.length_byte(n), content, f.first(), f.later(), out);
-    Written::Accepted(size)
+    f.cut().put_all(f.length_byte(n), content, out);
+    Ok(size)
 }
 
 // Sets one content byte of the frame that s begins with; its check is mended, all other bytes stay.
-pub fn change(f: Format, s: &mut [u8], place: usize, byte: u8) -> Frame
-    ensures { ◌≡◌ {A = Outcome Frame} (record { answer = result; memory = s.new })
-        (changing_of f s.old place byte) }
+pub fn change(f: Format, s: &mut [u8], place: usize, byte: u8) -> Result<Frame, Refusal>
+    ensures { leaving result s.new ≡ changing_of f s.old place byte }
 {
-    match judge(f, s) {
-        Frame::Refused(r) => Frame::Refused(r),
-        Frame::Accepted { size, n } => {
-            if n <= place {
-                return Frame::Refused(Refusal::BadPlace);
-            }
-            blocks::set_byte(s, f.first(), f.later(), n + 1, place + 1, byte);
-            Frame::Accepted { size, n }
-        }
+    let frame = judge(f, s)?;
+    if frame.n <= place {
+        return Err(Refusal::BadPlace);
     }
+    f.cut().set_byte(s, frame.n + 1, place + 1, byte);
+    Ok(frame)
 }
