@@ -6,7 +6,7 @@ ghost use Rattle.channels.specs.Plan.{float, row_of, entry_as_floats, centre_of}
 use crate::table21::TABLE;
 
 // A row of Table 21, in kilohertz: the first centre, the channel spacing, the frequency tolerance.
-#[derive(Clone, Copy)]
+#[derive(Clone, Copy, Debug, PartialEq)]
 pub struct Row {
     pub centre: f64,
     pub spacing: f64,
