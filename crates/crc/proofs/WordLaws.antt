@@ -8,22 +8,26 @@
 --     adds_then          bytes behind bytes
 --     number_lt          a number of bytes has eight digits for each
 --     adds_number        a number of bytes with one more byte behind it
+--     adds_word          a word of four bytes
 --     adds_start         the bytes from the start on
 --     adds_two, adds_four, adds_only   two words of four bytes; two more behind others; two that are all
---     group_behind       sixteen bytes behind a word: one turn of the loop over groups
+--     group_behind       sixteen bytes behind a word
+--     adds_all, adds_front, adds_taken    all bytes of a list, bytes in front of others, the first k
+--     lead_behind, group_append    what stands before the groups; one turn of the loop over them
 -- Assumes nothing.
 use mathlib.Core.Path.{◌≡◌, sym, ap, ap₂, ◌∙◌}
-use mathlib.Core.List.{List}
+use mathlib.Core.List.{List, [], ◌++◌}
 use Prim.Native.Nat.{ℕ, ◌+◌, ◌*◌, ◌-◌, ◌/◌, ◌%◌, ◌^◌, ◌<◌, ◌≤◌}
 use native.Mathlib.Nat.{zero-add, add-zero, add_assoc, mod-lt}
 use native.Mathlib.Omega.{arith}
 use lib.Bits.{bit_xor, xor_comm, xor_zero_r, xor_shifted}
-use lib.ListN.{length, drop, get_or}
+use lib.ListN.{length, take, drop, get_or, drop_of_length-le, take-append-drop}
+use lib.Seq.{drop_at, length-take-le}
 use lib.Pow.{shr_lt, split, pow_pos, pow-add}
 use Rattle.ground.proofs.XorLaws.{xor_assoc}
 use Rattle.crc.specs.Check.{bits_in, byte_in, reg_of}
 use Rattle.crc.specs.Inner.{remainder, Adds}
-use Rattle.crc.proofs.CheckLaws.{bits_in-xor, reg_of_drop}
+use Rattle.crc.proofs.CheckLaws.{bits_in-xor, reg_of_append, reg_of_drop}
 use Rattle.crc.proofs.RemainderLaws.{bits_in-zero, bits_in-add, rem_of-xor, remainder-shifted, remainder_small}
 
 -- ---- bytes and numbers
@@ -101,6 +105,25 @@ adds_number s at k w small inside byte before =
     rw (← whole) (adds_then s at k 1 (bits_in 16 (remainder w)) (bits_in 16 b) before
     (adds_byte s (at + k) inside byte))
 
+-- a word of four bytes
+pub adds_word :
+    (s : List ℕ) (at v : ℕ) → at + 4 ≤ length s → ((i : ℕ) → get_or s i 0 < 256)
+    → v
+    ≡ ((get_or s at 0 * 256 + get_or s (at + 1) 0) * 256 + get_or s (at + 2) 0) * 256 + get_or s (at + 3) 0
+    → Adds s at 4 (bits_in 16 (remainder v))
+adds_word s at v inside byte e =
+    let b : ℕ → ℕ = λ i. get_or s (at + i) 0 in
+    let lt : (i : ℕ) → b i < 256 = λ i. byte (at + i) in
+    let w₁ = 0 * 256 + b 0 in
+    let w₂ = w₁ * 256 + b 1 in
+    let w₃ = w₂ * 256 + b 2 in
+    let same : w₃ * 256 + b 3 ≡ v = omega (arith, ap (λ (i : ℕ). get_or s i 0) (add-zero at)) in
+    rw (← same)
+    (adds_number s at 3 w₃ (omega (arith, lt 0, lt 1, lt 2)) (omega arith) (lt 3)
+    (adds_number s at 2 w₂ (omega (arith, lt 0, lt 1)) (omega arith) (lt 2)
+    (adds_number s at 1 w₁ (omega (arith, lt 0)) (omega arith) (lt 1)
+    (adds_number s at 0 0 (omega arith) (omega arith) (lt 0) (adds_none s at)))))
+
 pub adds_start : (s : List ℕ) (k z : ℕ) → Adds s 0 k z → reg_of z (drop k s) ≡ reg_of 0 s
 adds_start s k z adds =
     ap₂ (λ (x i : ℕ). reg_of x (drop i s)) (ap (λ (x : ℕ). bit_xor x z) (sym (bits_in-zero (8 * k)))) (sym (zero-add k))
@@ -156,3 +179,37 @@ group_behind s at v g w group moved =
     ap (λ (x : ℕ). reg_of x (drop (at + 16) s))
     (rem_of-xor 64 g w ∙ xor_comm (remainder g) (remainder w) ∙ ap (λ (x : ℕ). bit_xor x (remainder g)) moved)
     ∙ sym (group (remainder v))
+
+-- ---- the same where the bytes are a list of their own
+
+-- the bytes of a list are all that there are
+pub adds_all : (s : List ℕ) (k z : ℕ) → length s ≡ k → Adds s 0 k z → z ≡ reg_of 0 s
+unfolding reg_of
+adds_all s k z size adds =
+    let end : drop k s ≡ [] = drop_of_length-le s {i = k} (omega arith) in
+    rw end at (adds_start s k z adds)
+
+-- bytes in front of others
+pub adds_front : (x t : List ℕ) (k z : ℕ) → length x ≡ k → Adds x 0 k z → Adds (x ++ t) 0 k z
+unfolding reg_of
+adds_front x t k z size adds r =
+    let none : 0 + k ≡ k = omega arith in
+    let end : drop k x ≡ [] = drop_of_length-le x {i = k} (omega arith) in
+    rw (none, drop_at x t k size)
+    (reg_of_append r x t ∙ ap (λ (y : ℕ). reg_of y t) (rw (none, end) at (adds r)))
+
+-- the first k bytes
+pub adds_taken :
+    (s : List ℕ) (k z : ℕ) → k ≤ length s → Adds (take k s) 0 (length (take k s)) z → Adds s 0 k z
+adds_taken s k z fits adds =
+    let size : length (take k s) ≡ k = length-take-le k s fits in
+    rw (take-append-drop k s) at (adds_front (take k s) (drop k s) k z size (rw size at adds))
+
+pub lead_behind : (x t : List ℕ) (k z : ℕ) → length x ≡ k → Adds x 0 k z → reg_of z t ≡ reg_of 0 (x ++ t)
+lead_behind x t k z size adds =
+    ap (λ (y : ℕ). reg_of y t) (adds_all x k z size adds) ∙ sym (reg_of_append 0 x t)
+
+pub group_append : (x t : List ℕ) (v g w : ℕ) → length x ≡ 16 → Adds x 0 16 (remainder g)
+    → remainder w ≡ bits_in 128 (remainder v) → reg_of (remainder (bit_xor g w)) t ≡ reg_of (remainder v) (x ++ t)
+group_append x t v g w size group moved =
+    rw (drop_at x t 16 size) at (group_behind (x ++ t) 0 v g w (adds_front x t 16 (remainder g) size group) moved)
