@@ -2,7 +2,7 @@
 ghost use Rattle.std.specs.Prelude.{◌≡◌, true, false, ◌&&◌, [], ℕ, ◌+◌, ◌*◌, ◌≤◌, ◌<◌, length, drop, MatchOption};
 ghost use Rattle.ground.specs.Bytes.{Bytes};
 ghost use Rattle.sessions.specs.StoreFile.{meter_in, meters_in, all_right, unlike};
-ghost use Rattle.store.specs.Inner.{place_of, FoundAt, MetersFrom, Indexed};
+ghost use Rattle.store.specs.Inner.{place_of, slot_of, FoundAt, MetersFrom, Indexed};
 
 use crate::meters::{self, METER};
 use sessions::Meter;
@@ -29,6 +29,12 @@ pub(crate) struct Index<'a> {
     ghost indexed: { Indexed slots links bytes.now first count },
 }
 
+fn slot_of(address: u64) -> usize
+    ensures { result ≡ slot_of address }
+{
+    (address % SLOTS as u64) as usize
+}
+
 impl<'a> Index<'a> {
     // No meter yet.
     pub(crate) fn none(bytes: &'a [u8], first: usize) -> Index<'a>
@@ -50,7 +56,7 @@ impl<'a> Index<'a> {
         ensures { FoundAt result self.now.count
             (place_of address (meters_in self.now.count (drop self.now.first self.now.bytes.now))) }
     {
-        let mut next = self.slots[(address % 509) as usize] as usize;
+        let mut next = self.slots[slot_of(address)] as usize;
         while next != 0 {
             let place = next - 1;
             if address::key_at(self.bytes, self.first + METER * place + 1) == address {
@@ -88,7 +94,7 @@ impl<'a> Index<'a> {
         if self.find(address).is_some() {
             return false;
         }
-        let slot = (address % 509) as usize;
+        let slot = slot_of(address);
         self.links[i] = self.slots[slot];
         self.slots[slot] = (i + 1) as u8;
         self.count = i + 1;
@@ -102,9 +108,8 @@ impl<'a> Index<'a> {
             ((all_right count (drop first bytes.now) && unlike [] (meters_in count (drop first bytes.now))) ≡ false)
             (λ m. (m.bytes.now ≡ bytes.now) × ((m.first ≡ first) × (m.count ≡ count))) }
     {
-        // No `for`: the index itself counts what it took.
         let mut index = Index::none(bytes, first);
-        while index.count < count {
+        for _ in 0..count {
             if !index.take_next() {
                 return None;
             }

@@ -8,8 +8,11 @@ use crate::index::{Index, LIMIT};
 use crate::meters::METER;
 use answers::Refusal;
 
-// Bytes of memory that a store is kept in.
-pub const MEMORY: usize = 1288;
+// Bytes of a store before its meters: the version, the allowance and the count, each behind its length.
+pub(crate) const HEAD: usize = 8;
+
+// Bytes of memory that a store is kept in: as many as the largest has.
+pub(crate) const MEMORY: usize = HEAD + METER * LIMIT;
 
 // The meters behind the count at place k + 1, if it is one, at most 64, and right meters follow it.
 fn right_body(s: &[u8], k: usize) -> Option<Index<'_>>

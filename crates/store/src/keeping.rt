@@ -7,16 +7,13 @@ ghost use Rattle.sessions.specs.StoreCalls.{emptying, adding, adding_by, hearing
 ghost use Rattle.store.specs.Inner.{known_at};
 
 use crate::index::LIMIT;
-use crate::judging::MEMORY;
+use crate::judging::{HEAD, MEMORY};
 use crate::meters::METER;
 use crate::{judging, meters};
 use answers::Refusal;
 use frame::Format;
 use modes::Mode;
 use sessions::Meter;
-
-// Bytes of a store before its meters: the version, the allowance and the count, each behind its length.
-pub(crate) const HEAD: usize = 8;
 
 // Puts a meter at `place` of a memory with `count` meters: in the place of another one, or behind the last. How many
 // bytes the store has then.

@@ -5,7 +5,7 @@ ghost use Rattle.sessions.specs.StoreCalls.{restoring};
 ghost use Rattle.store.specs.Inner.{Planned, allowance_of, restored_to, placed_in, merging};
 
 use crate::index::{Index, LIMIT};
-use crate::keeping::HEAD;
+use crate::judging::HEAD;
 use crate::meters::METER;
 use crate::{judging, keeping, meters};
 use answers::Refusal;

@@ -6,7 +6,7 @@ use Rattle.store.proofs.PlaceLaws.{stands_at, stands_nowhere}
 use Rattle.store.proofs.index.Index.find.Goals as goal
 
 pub loop-next-init : goal.loop-next-init
-loop-next-init c = walk_starts c.args.address c.args.self.now.indexed
+loop-next-init c = rw c.slot_of.ensures (walk_starts c.args.address c.args.self.now.indexed)
 
 pub returns-then-key_at-address : goal.returns-then-key_at-address
 returns-then-key_at-address c =
