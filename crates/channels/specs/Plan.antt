@@ -1,14 +1,13 @@
 -- The mode N channel plan as floats in kilohertz (document 01, "Mode N channels"; EN 13757-4:2019, Table 21).
 --     float q          the f64 nearest to q quarters of a kilohertz; ExactLaws shows that it is exact
 --     row_of i          the row of index i: first centre, spacing, tolerance; three zeros where there is none (D50)
+--     entry_as_floats i    the row's three numbers, and how many channels it has
 --     centre_of i c     the centre of channel c of index i, or that there is no such channel
 -- Assumes nothing.
-use Rattle.std.specs.Prelude.{false, cond, ℕ, ltb, Float}
+use Rattle.std.specs.Prelude.{false, cond, ℕ, ltb, Float, Option, Some, None}
 use Rattle.std.specs.Float.{binary64}
 use Rattle.std.specs.Float.Ieee.{round}
 use Rattle.channels.specs.declared.plan.Row.{Row}
-use Rattle.channels.specs.declared.plan.Centre.{Centre}
-use Rattle.channels.specs.declared.plan.Centre.TheVariants.{At, NoSuch}
 use Rattle.channels.specs.Table21.{entry_of, channels_of, quarters_of}
 
 unfoldable pub float : ℕ → Float
@@ -22,5 +21,8 @@ row_of i =
       tolerance = float (entry_of i).tolerance;
     }
 
-abbrev pub centre_of : ℕ → ℕ → Centre
-centre_of i c = cond (ltb c (channels_of i)) (At (float (quarters_of i c))) NoSuch
+abbrev pub entry_as_floats : ℕ → Float × Float × Float × ℕ
+entry_as_floats i = ((row_of i).centre, (row_of i).spacing, (row_of i).tolerance, channels_of i)
+
+abbrev pub centre_of : ℕ → ℕ → Option Float
+centre_of i c = cond (ltb c (channels_of i)) (Some (float (quarters_of i c))) None

@@ -1,25 +1,22 @@
-use borrow.Author.Rules.{rules}
-use mathlib.Core.Path.{refl, sym, ◌∙◌}
-use Rattle.channels.proofs.ListingLaws.{rows_of_le, get_or_lines_from-lt, get_or_lines_from-le, get_or_lines_from-nil}
+use Rattle.std.proofs.Common.{◌≡◌, ◌+◌, ◌-◌, sym, ◌∙◌, arith, rules}
+use Rattle.channels.proofs.ListingLaws.{slice_get_lines_from-lt, slice_get_lines_from-le, slice_get_lines_from-nil}
 use Rattle.channels.proofs.listing.line_at.Goals as goal
-
-pub loop-left-init : goal.loop-left-init
-loop-left-init c = (refl, rw c.rows_of-rows.ensures (rows_of_le c.args.band))
 
 pub returns-then-channel-channels : goal.returns-then-channel-channels
 returns-then-channel-channels c =
-    let at = c.loop-left in
-    rw (c.hertz_in.ensures, ← c.rows_of-rows.ensures)
-    (sym (get_or_lines_from-lt at.index at.left at.channel (search rules) (search rules)) ∙ at.invariant.0)
+    let at = c.loop-index in
+    rw c.hertz_in-hertz.ensures
+    (sym (slice_get_lines_from-lt at.index _ at.channel (omega arith) (search rules)) ∙ at.invariant)
 
-pub loop-left-preserved : goal.loop-left-preserved
-loop-left-preserved c =
-    let at = c.loop-left in
-    let past = get_or_lines_from-le at.index at.left at.channel (search rules) (search rules) in
-    (rw c.channels_of-channels.ensures (sym past ∙ at.invariant.0), search rules)
+pub loop-index-preserved : goal.loop-index-preserved
+loop-index-preserved c =
+    let at = c.loop-index in
+    let rows = c.rows_of-rows.result in
+    let left : rows.first + rows.count - (at.index + 1) ≡ rows.first + rows.count - at.index - 1 = omega arith in
+    rw (left, c.channels_of-channels.ensures)
+    (sym (slice_get_lines_from-le at.index _ at.channel (omega arith) (search rules)) ∙ at.invariant)
 
 pub returns : goal.returns
 returns c =
-    let at = c.loop-left in
-    rw (← c.rows_of-rows.ensures)
-    (sym (get_or_lines_from-nil at.index at.left at.channel (search rules)) ∙ at.invariant.0)
+    let at = c.loop-index in
+    sym (slice_get_lines_from-nil at.index _ at.channel (omega arith)) ∙ at.invariant

@@ -1,24 +1,25 @@
--- `channels::listing::lines_of` meets its contract: antt counts the lines of each band. Assumes nothing.
+-- antt counts the lines of each band.
+use Rattle.std.proofs.Common.{rules}
 use Rattle.channels.specs.Table21.{table, entry_of}
 use Rattle.channels.specs.Listing.{channels_up_to, lines_from}
 use Rattle.channels.proofs.listing.lines_of.Goals as goal
 
-pub returns-in-A : goal.returns-in-A
+pub returns-in-Some-A : goal.returns-in-Some-A
 unfolding channels_up_to lines_from entry_of table
-returns-in-A c = rw c.in-A.is
+returns-in-Some-A c = search rules
 
-pub returns-in-B : goal.returns-in-B
+pub returns-in-Some-B : goal.returns-in-Some-B
 unfolding channels_up_to lines_from entry_of table
-returns-in-B c = rw c.in-B.is
+returns-in-Some-B c = search rules
 
-pub returns-in-C : goal.returns-in-C
+pub returns-in-Some-C : goal.returns-in-Some-C
 unfolding channels_up_to lines_from entry_of table
-returns-in-C c = rw c.in-C.is
+returns-in-Some-C c = search rules
 
-pub returns-in-D : goal.returns-in-D
+pub returns-in-Some-D : goal.returns-in-Some-D
 unfolding channels_up_to lines_from entry_of table
-returns-in-D c = rw c.in-D.is
+returns-in-Some-D c = search rules
 
-pub returns-in-NoSuch : goal.returns-in-NoSuch
+pub returns-in-None : goal.returns-in-None
 unfolding channels_up_to lines_from entry_of table
-returns-in-NoSuch c = rw c.in-NoSuch.is
+returns-in-None c = search rules
