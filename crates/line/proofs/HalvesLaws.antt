@@ -1,7 +1,7 @@
--- Three-of-six read a byte at a time: its two words are looked up in a table of 64 (specs/Inner).
---     row_of_listed             what is cut out of a row for a word is what is listed for it, by computing all 64; that
---                              the source's rows are these is a computation too (`line::codes::row`)
---     Halves-none, Halves-step    a table is filled from the front, entry after entry
+-- Three-of-six read a byte at a time: its two words are looked up in a table of 64 (`line::codes::half_of`).
+--     row_of_listed             Table 10 in rows of eight: what is cut out of a row for a word is what is listed for it,
+--                              by computing all 64
+--     Halves-none, Halves-step    a table of what is listed, filled from the front, entry after entry
 --     half_of_is, half_of_none   what a number listed says of its word
 --     listed_some, listed_none   and the other way round
 --     half_at_first, half_at_second    the two words of the byte, cut out of the 32 chips from its first byte on

@@ -32,10 +32,9 @@ fn coded_byte(code: Code, s: &[u8], i: usize) -> usize
     }
     let b = code.bits();
     let w = code.width();
-    let m = code.per_byte();
     let x = usize::from(s[i]);
     let mut all: usize = 0;
-    for k in 0..m {
+    for k in 0..code.per_byte() {
         let word = code.word_of(digits::part(x, b, 8 - b - k * b));
         all = digits::join(all, w, word);
     }
