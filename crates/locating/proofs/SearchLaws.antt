@@ -165,8 +165,14 @@ module _ {s v : List ℕ} {kept : List (Option Kept)} {low i x : ℕ} (slots : S
         reducing = next-reducing eu ek en;
       }
 
-pub found : {s v : List ℕ} {d : ℕ} → d ≤ 16 → Reducing s (16 - d) v 16 → Locates s v d
-found small r = record { degree = small; poly = r.poly; all = r.before }
+module _ {s v : List ℕ} {low i : ℕ} (at : Reducing s low v i) where
+  poly_by_degree : Poly (16 - (16 - low)) v
+  poly_by_degree =
+      let e : low ≡ 16 - (16 - low) = omega (arith, at.poly.within) in
+      subst (λ (k : ℕ). Poly k v) e at.poly
+
+  pub found : 16 ≤ i → Locates s v (16 - low)
+  found all = record { degree = omega arith; poly = poly_by_degree; all = λ k h. at.before k (omega arith) }
 
 -- ---- how it begins
 
