@@ -9,10 +9,10 @@
 use mathlib.Core.Bool.{Bool, true, false, cond}
 use mathlib.Core.List.{List}
 use mathlib.Core.Logic.{⊎_elim}
-use mathlib.Core.Path.{◌≡◌, refl, sym, ap, ap₂, subst, ◌∙◌}
+use mathlib.Core.Path.{◌≡◌, refl, sym, ap, subst, ◌∙◌}
 use Prim.Native.Nat.{ℕ, suc, ◌+◌, ◌-◌, ◌≤◌, ◌<◌}
 use native.Mathlib.Omega.{arith}
-use lib.Bits.{bit_xor, xor_zero_r, xor_lt}
+use lib.Bits.{bit_xor, xor_lt}
 use lib.ListN.{length, get_or, take, drop, set, length-set, length-drop, take-append-drop}
 use lib.Seq.{set-get_or, get_or-set_same, get_or-set_other}
 use Rattle.std.specs.Prelude.{Option, Some, None}
@@ -27,7 +27,7 @@ use Rattle.codewords.specs.CheckBytes.{checks_of}
 use Rattle.codewords.proofs.RootLaws.{low_root, root_low}
 use Rattle.proposals.specs.Near.{Near, is_code_block, nearest_of}
 use Rattle.proposals.proofs.CodeLaws.{is_code_block_code, not_code_block_not}
-use Rattle.proposals.proofs.NearestLaws.{near, near_self, near_same, nearest_is, nearest_near}
+use Rattle.proposals.proofs.NearestLaws.{near, near_self, nearest_is, nearest_near}
 use Rattle.proposals.proofs.OneByteLaws.{remainder_value, Differ, differ_one, error, place, error-lt, error_positive, one_value, mended, front_place}
 use Rattle.repairing.specs.Inner.{added}
 use Rattle.repairing.specs.Remains.{Remains}

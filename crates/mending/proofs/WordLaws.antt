@@ -1,33 +1,35 @@
 -- Words compared, and the test of a code word.
 --     count_apart, apart-le    how many bytes differ, as the code counts them: at most as many as there are
---     code_tested       fresh check bytes are those that stand there exactly where the word is a code word
+--     code_tested       fresh check bytes differ nowhere from those that stand there exactly where the word is a code
+--                       word
+--     code_compared     and so they do where the two are compared at once
 --     clean_tested      and so is their sum with those 0
 --     sum_next, sum_end    that sum, in place
 --     words_differ      two words compared in two parts
 -- Assumes nothing.
-use mathlib.Core.Bool.{Bool, true, false, cond, false≢true}
-use mathlib.Core.List.{List, [], ◌∷◌, ◌++◌}
+use mathlib.Core.Bool.{Bool, true, false, cond}
+use mathlib.Core.List.{List, [], ◌∷◌, ◌++◌, append-nil}
 use mathlib.Core.Path.{◌≡◌, refl, sym, ap, ap₂, ◌∙◌}
 use Prim.Native.Nat.{ℕ, ◌+◌, ◌-◌, ◌≤◌, ◌<◌}
-use native.Mathlib.Nat.{zero-add, add-zero}
-use native.Mathlib.Numerals.{add-one}
 use native.Mathlib.Omega.{arith}
-use borrow.Author.Tests.{eq-eqb, ne_eqb}
+use borrow.Author.Tests.{eq-eqb}
 use lib.Dec.{eqb}
-use Rattle.std.proofs.Common.{get_or-drop}
+use Rattle.std.proofs.Common.{Result, get_or-drop}
 use Rattle.std.specs.Prelude.{◌==◌, not, count_by, zip}
 use Rattle.std.specs.Cmp.Lexicographic.{pointwise}
+use Rattle.std.proofs.lemmas.Bool.{eqb-true}
 use Rattle.std.proofs.lemmas.Bool.Decides.{Decides-eqb, same_from_decides}
 use Rattle.std.proofs.lemmas.List.Sums.{sum_by-cons}
 use Rattle.std.proofs.lemmas.Slice.Eq.{slice_eq-Decides}
 use lib.Bits.{bit_xor, xor_comm}
 use lib.ListN.{length, get_or, take, drop, set, length-drop, take-append-drop, drop_of_length-le, replicate}
-use lib.Seq.{drop-cons, length-take-le, take_all, take-add}
-use Rattle.answers.specs.Outcome.{Outcome}
+use lib.Seq.{length-take-le, take_all, take-add}
+use Rattle.answers.specs.Outcome.{Outcome, leaving}
+use Rattle.answers.specs.declared.Refusal.{Refusal}
 use Rattle.ground.specs.Apart.{apart}
 use Rattle.ground.specs.Bytes.{Bytes}
 use Rattle.ground.specs.Sums.{xors}
-use Rattle.ground.proofs.ApartLaws.{apart-append}
+use Rattle.ground.proofs.ApartLaws.{apart_self, apart-zero, apart-append}
 use Rattle.ground.proofs.InPlaceLaws.{elements, InPlace, in_place_next, in_place_end}
 use Rattle.ground.proofs.SumLaws.{length-xors, xors_self, xors_equal, get_or-xors}
 use Rattle.ground.proofs.ByteLaws.{bytes_take, bytes_drop}
@@ -79,9 +81,34 @@ module _ (w : List ℕ) (end : ℕ) (bytes : Bytes w) (size : end + 32 ≡ lengt
       code-is_code_block w
       (rw (take-append-drop end w) at (checks_code (take end w) {c = drop end w} (bytes_take end w bytes) e))
 
-  pub code_tested : {r : Bool} {m : List ℕ} → m ≡ checks_of (take end w)
+  -- what the writer of check bytes leaves in 32 bytes of memory
+  fresh_checks : {a : Result ℕ Refusal} {m : List ℕ} (d : List ℕ) → length d ≡ 32 → end ≤ 223
+      → leaving a m ≡ checking_of (take (end - 0) w) d → m ≡ checks_of (take end w)
+  fresh_checks {a} {m} d room most e =
+      let all : end - 0 ≡ end = omega arith in
+      let long : length (take (end - 0) w) ≤ 223 = rw (all, length-take-le end w (omega arith)) most in
+      let c = checks_of (take (end - 0) w) in
+      ap (λ (o : Outcome (Result ℕ Refusal)). o.memory) (e ∙ checking_done (take (end - 0) w) d long (omega arith))
+      ∙ ap (λ (l : List ℕ). c ++ l) (drop_of_length-le d {i = 32} (omega arith)) ∙ append-nil c
+      ∙ ap (λ (k : ℕ). checks_of (take k w)) all
+
+  pub code_tested : {n : ℕ} {a : Result ℕ Refusal} {m : List ℕ} (d : List ℕ) → length d ≡ 32 → end ≤ 223
+      → leaving a m ≡ checking_of (take (end - 0) w) d
+      → n ≡ apart (take (length w - end) (drop end w)) m → eqb n 0 ≡ is_code_block w
+  code_tested {n} d room most made is =
+      let c = checks_of (take end w) in
+      let all = take_all (length w - end) (drop end w) (omega (arith, length-drop end w)) in
+      let same = length_end ∙ sym (length-checks_of (take end w)) in
+      let count = is ∙ ap₂ apart all (fresh_checks d room most made) in
+      same_from_decides (eqb n 0) (is_code_block w) (
+        λ t. apart-zero (drop end w) c same (omega (arith, count, eqb-true n 0 t)),
+        λ e. eq-eqb n 0 (count ∙ ap (apart (drop end w)) (sym e) ∙ apart_self (drop end w)),
+      )
+      (checks_here, here_code)
+
+  pub code_compared : {r : Bool} {m : List ℕ} → m ≡ checks_of (take end w)
       → r ≡ pointwise eqb (take (length w - end) (drop end w)) m → r ≡ is_code_block w
-  code_tested {r} fresh is =
+  code_compared {r} fresh is =
       let all = take_all (length w - end) (drop end w) (omega (arith, length-drop end w)) in
       same_from_decides r (is_code_block w)
       (slice_eq-Decides Decides-eqb (drop end w) (checks_of (take end w)) r (is ∙ ap₂ (pointwise eqb) all fresh))
