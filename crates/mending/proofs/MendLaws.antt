@@ -58,7 +58,8 @@ module _ (w : List ℕ) (end : ℕ) (bytes : Bytes w) (size : end + 32 ≡ lengt
       ∙ remainder_value k h (take end w) (drop end w) (bytes_take end w bytes) (omega (arith, length-drop end w))
       ∙ ap (λ (r : ℕ). value_at r rest) (root_low k)
 
-  module _ {x y : ℕ} {r : Option Fault} (first : x ≡ value_at (alpha_to 212) rest) (second : y ≡ value_at (alpha_to 223) rest)
+  module _ {x y : ℕ} {r : Option Fault} (first : x ≡ value_at (alpha_to 212) rest)
+      (second : y ≡ value_at (alpha_to 223) rest)
       (at : Locates x y (length w) r) where
     first_value : x ≡ value_at (root 0) w
     unfolding low_root
@@ -124,8 +125,8 @@ module _ (w : List ℕ) {r : Fault} (points : Points w (Some r)) (bytes : Bytes 
   module _ (behind : 0 < i) where
     tried_near : is_code_block v ≡ true → Near 1 w v
     tried_near t =
-        near (bytes-set w i _ bytes (xor_lt 8 (get_or w i 0) r.error (bytes i) points.inside.1)) (is_code_block_code v t)
-        (length-set w i _) (get_or-set_other w i 0 _ 0 (λ e. omega arith)) (apart-set w i _)
+        near (bytes-set w i _ bytes (xor_lt 8 (get_or w i 0) r.error (bytes i) points.inside.1))
+        (is_code_block_code v t) (length-set w i _) (get_or-set_other w i 0 _ 0 (λ e. omega arith)) (apart-set w i _)
 
     pub tried_nearest : {m : List ℕ} → Tried w r m → m ≡ nearest_of 1 w
     tried_nearest {m} e = e ∙ by (is_code_block v) refl
