@@ -1,5 +1,4 @@
 -- One turn of the division: two bytes of the word go into a remainder.
---     top_lt, next-lt    what falls out, a byte of the word added, is a byte
 --     in_two          what the code makes of a remainder and two bytes is the remainder after them
 --     Turning         what holds before each turn: an even number of bytes v is left, and m divided on with them is the
 --                     remainder of the word w
@@ -11,7 +10,7 @@ use mathlib.Core.Path.{◌≡◌, refl, sym, ap, ap₂, ◌∙◌}
 use mathlib.Core.List.{List, [], ◌∷◌, ◌++◌}
 use Prim.Native.Nat.{ℕ, ◌-◌, ◌/◌, ◌%◌, ◌≤◌, ◌<◌}
 use native.Mathlib.Omega.{arith}
-use lib.Bits.{bit_xor, xor_lt}
+use lib.Bits.{bit_xor}
 use lib.ListN.{length, get_or, take, drop, replicate, length-drop}
 use lib.Seq.{take_all}
 use Rattle.ground.specs.Sums.{xors}
@@ -25,12 +24,6 @@ top_byte u h = omega arith
 
 next_byte : (u : ℕ) → u / 281474976710656 % 256 ≡ u / 4294967296 / 65536 % 256
 next_byte u = omega arith
-
-pub top_lt : (u x : ℕ) → u < 18446744073709551616 → x < 256 → bit_xor (u / 72057594037927936) x < 256
-top_lt u x h hx = xor_lt 8 (u / 72057594037927936) x (omega arith) hx
-
-pub next-lt : (u x : ℕ) → x < 256 → bit_xor (u / 281474976710656 % 256) x < 256
-next-lt u x hx = xor_lt 8 (u / 281474976710656 % 256) x (omega arith) hx
 
 pub in_two : (m : Remainder) (x y : ℕ) {u v w : List ℕ} → m.a < 18446744073709551616
     → u ≡ drop 2 (bytes_of m) ++ (0 ∷ 0 ∷ [])

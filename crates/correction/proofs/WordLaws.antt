@@ -15,6 +15,7 @@ use Rattle.std.specs.Int.{w64, to_be_bytes}
 use Rattle.ground.specs.Sums.{xors}
 use Rattle.ground.proofs.SumLaws.{cons}
 use Rattle.address.specs.Keys.{four_bytes, key_bytes}
+use Rattle.address.proofs.StoreLaws.{high_first}
 use Rattle.correction.specs.declared.division.Remainder.{Remainder}
 use Rattle.correction.specs.Inner.{bytes_of}
 
@@ -115,13 +116,8 @@ bytes_of_up m hb hc hd =
 
 -- ---- stored
 
-key_bytes_stored : (n : ℕ) → to_be_bytes w64 n ≡ key_bytes n
-key_bytes_stored n =
-    cons (omega arith) (cons (omega arith) (cons (omega arith) (cons (omega arith)
-    (cons (omega arith) (cons (omega arith) (cons (omega arith) (cons (omega arith) refl)))))))
-
 pub bytes_put : (m : Remainder) {a b c d : List ℕ}
     → a ≡ to_be_bytes w64 m.a → b ≡ to_be_bytes w64 m.b → c ≡ to_be_bytes w64 m.c → d ≡ to_be_bytes w64 m.d
     → put_mid 24 8 (put_mid 16 8 (put_mid 8 8 (a ++ replicate 24 0) b) c) d ≡ bytes_of m
 bytes_put m ea eb ec ed =
-    rw (ea ∙ key_bytes_stored m.a, eb ∙ key_bytes_stored m.b, ec ∙ key_bytes_stored m.c, ed ∙ key_bytes_stored m.d) refl
+    rw (ea ∙ high_first m.a, eb ∙ high_first m.b, ec ∙ high_first m.c, ed ∙ high_first m.d) refl

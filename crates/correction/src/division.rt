@@ -9,7 +9,7 @@ use crate::rows::Rows;
 use std::ops::BitXor;
 
 // Its 32 bytes, highest power first, as four words.
-#[derive(Clone, Copy)]
+#[derive(Clone, Copy, Debug, PartialEq, Eq)]
 pub(crate) struct Remainder {
     pub(crate) a: u64,
     pub(crate) b: u64,

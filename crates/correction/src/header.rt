@@ -23,10 +23,10 @@ fn id(h: u16) -> u16
 pub fn announced(s: &[u8]) -> Result<(), Refusal>
     ensures { result ≡ announced_of s.now }
 {
-    if s.len() < 2 {
+    let [low, high, ..] = s else {
         return Err(Refusal::Short);
-    }
-    if id(address::two_at(s, 0)) != 1 {
+    };
+    if id(u16::from_le_bytes([*low, *high])) != 1 {
         return Err(Refusal::UnknownCode);
     }
     Ok(())

@@ -12,7 +12,6 @@ use native.Mathlib.Nat.{add-mul-mod_self_left, mod-eq_of_lt}
 use native.Mathlib.Omega.{arith}
 use lib.ListN.{get_or}
 use Rattle.std.specs.Prelude.{Some, None}
-use Rattle.ground.specs.Bytes.{Bytes}
 use Rattle.field.specs.Field.{mul, alpha_to}
 use Rattle.field.proofs.PowerLaws.{alpha_to-lt, alpha_to-add, alpha_to-mod, power_cancel}
 use Rattle.field.proofs.PrimitiveLaws.{log, log-lt, alpha_to_log}

@@ -9,10 +9,10 @@
 use mathlib.Core.Bool.{Bool, true, false, cond}
 use mathlib.Core.List.{List}
 use mathlib.Core.Logic.{⊎_elim}
-use mathlib.Core.Path.{◌≡◌, refl, sym, ap, ap₂, subst, ◌∙◌}
+use mathlib.Core.Path.{◌≡◌, refl, sym, ap, subst, ◌∙◌}
 use Prim.Native.Nat.{ℕ, suc, ◌+◌, ◌-◌, ◌≤◌, ◌<◌}
 use native.Mathlib.Omega.{arith}
-use lib.Bits.{bit_xor, xor_zero_r, xor_lt}
+use lib.Bits.{bit_xor, xor_lt}
 use lib.ListN.{length, get_or, take, drop, set, length-set, length-drop, take-append-drop}
 use lib.Seq.{set-get_or, get_or-set_same, get_or-set_other}
 use Rattle.std.specs.Prelude.{Option, Some, None}
@@ -27,7 +27,7 @@ use Rattle.codewords.specs.CheckBytes.{checks_of}
 use Rattle.codewords.proofs.RootLaws.{low_root, root_low}
 use Rattle.proposals.specs.Near.{Near, is_code_block, nearest_of}
 use Rattle.proposals.proofs.CodeLaws.{is_code_block_code, not_code_block_not}
-use Rattle.proposals.proofs.NearestLaws.{near, near_self, near_same, nearest_is, nearest_near}
+use Rattle.proposals.proofs.NearestLaws.{near, near_self, nearest_is, nearest_near}
 use Rattle.proposals.proofs.OneByteLaws.{remainder_value, Differ, differ_one, error, place, error-lt, error_positive, one_value, mended, front_place}
 use Rattle.repairing.specs.Inner.{added}
 use Rattle.repairing.specs.Remains.{Remains}
@@ -58,7 +58,8 @@ module _ (w : List ℕ) (end : ℕ) (bytes : Bytes w) (size : end + 32 ≡ lengt
       ∙ remainder_value k h (take end w) (drop end w) (bytes_take end w bytes) (omega (arith, length-drop end w))
       ∙ ap (λ (r : ℕ). value_at r rest) (root_low k)
 
-  module _ {x y : ℕ} {r : Option Fault} (first : x ≡ value_at (alpha_to 212) rest) (second : y ≡ value_at (alpha_to 223) rest)
+  module _ {x y : ℕ} {r : Option Fault} (first : x ≡ value_at (alpha_to 212) rest)
+      (second : y ≡ value_at (alpha_to 223) rest)
       (at : Locates x y (length w) r) where
     first_value : x ≡ value_at (root 0) w
     unfolding low_root
@@ -124,8 +125,8 @@ module _ (w : List ℕ) {r : Fault} (points : Points w (Some r)) (bytes : Bytes 
   module _ (behind : 0 < i) where
     tried_near : is_code_block v ≡ true → Near 1 w v
     tried_near t =
-        near (bytes-set w i _ bytes (xor_lt 8 (get_or w i 0) r.error (bytes i) points.inside.1)) (is_code_block_code v t)
-        (length-set w i _) (get_or-set_other w i 0 _ 0 (λ e. omega arith)) (apart-set w i _)
+        near (bytes-set w i _ bytes (xor_lt 8 (get_or w i 0) r.error (bytes i) points.inside.1))
+        (is_code_block_code v t) (length-set w i _) (get_or-set_other w i 0 _ 0 (λ e. omega arith)) (apart-set w i _)
 
     pub tried_nearest : {m : List ℕ} → Tried w r m → m ≡ nearest_of 1 w
     tried_nearest {m} e = e ∙ by (is_code_block v) refl

@@ -1,33 +1,35 @@
 -- Words compared, and the test of a code word.
 --     count_apart, apart-le    how many bytes differ, as the code counts them: at most as many as there are
---     code_tested       fresh check bytes are those that stand there exactly where the word is a code word
+--     code_tested       fresh check bytes differ nowhere from those that stand there exactly where the word is a code
+--                       word
+--     code_compared     and so they do where the two are compared at once
 --     clean_tested      and so is their sum with those 0
 --     sum_next, sum_end    that sum, in place
 --     words_differ      two words compared in two parts
 -- Assumes nothing.
-use mathlib.Core.Bool.{Bool, true, false, cond, false≢true}
-use mathlib.Core.List.{List, [], ◌∷◌, ◌++◌}
+use mathlib.Core.Bool.{Bool, true, false, cond}
+use mathlib.Core.List.{List, [], ◌∷◌, ◌++◌, append-nil}
 use mathlib.Core.Path.{◌≡◌, refl, sym, ap, ap₂, ◌∙◌}
 use Prim.Native.Nat.{ℕ, ◌+◌, ◌-◌, ◌≤◌, ◌<◌}
-use native.Mathlib.Nat.{zero-add, add-zero}
-use native.Mathlib.Numerals.{add-one}
 use native.Mathlib.Omega.{arith}
-use borrow.Author.Tests.{eq-eqb, ne_eqb}
+use borrow.Author.Tests.{eq-eqb}
 use lib.Dec.{eqb}
-use Rattle.std.proofs.Common.{get_or-drop}
+use Rattle.std.proofs.Common.{Result, get_or-drop}
 use Rattle.std.specs.Prelude.{◌==◌, not, count_by, zip}
 use Rattle.std.specs.Cmp.Lexicographic.{pointwise}
+use Rattle.std.proofs.lemmas.Bool.{eqb-true}
 use Rattle.std.proofs.lemmas.Bool.Decides.{Decides-eqb, same_from_decides}
 use Rattle.std.proofs.lemmas.List.Sums.{sum_by-cons}
 use Rattle.std.proofs.lemmas.Slice.Eq.{slice_eq-Decides}
 use lib.Bits.{bit_xor, xor_comm}
 use lib.ListN.{length, get_or, take, drop, set, length-drop, take-append-drop, drop_of_length-le, replicate}
-use lib.Seq.{drop-cons, length-take-le, take_all, take-add}
-use Rattle.answers.specs.Outcome.{Outcome}
+use lib.Seq.{length-take-le, take_all, take-add}
+use Rattle.answers.specs.Outcome.{Outcome, leaving}
+use Rattle.answers.specs.declared.Refusal.{Refusal}
 use Rattle.ground.specs.Apart.{apart}
 use Rattle.ground.specs.Bytes.{Bytes}
 use Rattle.ground.specs.Sums.{xors}
-use Rattle.ground.proofs.ApartLaws.{apart-append}
+use Rattle.ground.proofs.ApartLaws.{first_most, apart_self, apart-zero, apart-append}
 use Rattle.ground.proofs.InPlaceLaws.{elements, InPlace, in_place_next, in_place_end}
 use Rattle.ground.proofs.SumLaws.{length-xors, xors_self, xors_equal, get_or-xors}
 use Rattle.ground.proofs.ByteLaws.{bytes_take, bytes_drop}
@@ -41,27 +43,23 @@ use Rattle.proposals.proofs.CodeLaws.{is_code_block_code, code-is_code_block, ch
 
 -- ---- the count
 
+one_apart : (t : Bool) → ◌≡◌ {A = ℕ} (cond (not t) 1 0) (cond t 0 1)
+one_apart true = refl
+one_apart false = refl
+
 pub count_apart : (u v : List ℕ) → count_by (λ (p : ℕ × ℕ). not (p.0 == p.1)) (zip u v) ≡ apart u v
 unfolding apart
 count_apart [] v = refl
 count_apart (x ∷ u) [] = refl
 count_apart (x ∷ u) (y ∷ v) =
     sum_by-cons {X = ℕ × ℕ} (λ p. cond (not (p.0 == p.1)) 1 0) (x, y) (zip u v)
-    ∙ ap₂ ◌+◌ (by (eqb x y)) (count_apart u v)
-  where
-    by : (t : Bool) → ◌≡◌ {A = ℕ} (cond (not t) 1 0) (cond t 0 1)
-    by true = refl
-    by false = refl
+    ∙ ap₂ ◌+◌ (one_apart (eqb x y)) (count_apart u v)
 
 pub apart-le : (u v : List ℕ) → apart u v ≤ length u
 unfolding apart
 apart-le [] v = omega arith
 apart-le (x ∷ u) [] = omega arith
-apart-le (x ∷ u) (y ∷ v) = omega (arith, apart-le u v, by (eqb x y))
-  where
-    by : (t : Bool) → cond t 0 1 ≤ 1
-    by true = omega arith
-    by false = omega arith
+apart-le (x ∷ u) (y ∷ v) = omega (arith, apart-le u v, first_most x y u v)
 
 -- ---- the test of a code word
 
@@ -79,26 +77,57 @@ module _ (w : List ℕ) (end : ℕ) (bytes : Bytes w) (size : end + 32 ≡ lengt
       code-is_code_block w
       (rw (take-append-drop end w) at (checks_code (take end w) {c = drop end w} (bytes_take end w bytes) e))
 
-  pub code_tested : {r : Bool} {m : List ℕ} → m ≡ checks_of (take end w)
-      → r ≡ pointwise eqb (take (length w - end) (drop end w)) m → r ≡ is_code_block w
-  code_tested {r} fresh is =
-      let all = take_all (length w - end) (drop end w) (omega (arith, length-drop end w)) in
-      same_from_decides r (is_code_block w)
-      (slice_eq-Decides Decides-eqb (drop end w) (checks_of (take end w)) r (is ∙ ap₂ (pointwise eqb) all fresh))
+  tail_part : take (length w - end) (drop end w) ≡ drop end w
+  tail_part = take_all (length w - end) (drop end w) (omega (arith, length-drop end w))
+
+  same_length : length (drop end w) ≡ length (checks_of (take end w))
+  same_length = length_end ∙ sym (length-checks_of (take end w))
+
+  -- what the writer of check bytes leaves in 32 bytes of memory
+  fresh_checks : {a : Result ℕ Refusal} {m : List ℕ} (d : List ℕ) → length d ≡ 32 → end ≤ 223
+      → leaving a m ≡ checking_of (take end w) d → m ≡ checks_of (take end w)
+  fresh_checks d room most e =
+      let c = checks_of (take end w) in
+      let long = checking_done (take end w) d (rw (length-take-le end w (omega arith)) most) (omega arith) in
+      ap (λ (o : Outcome (Result ℕ Refusal)). o.memory) (e ∙ long)
+      ∙ ap (λ (l : List ℕ). c ++ l) (drop_of_length-le d {i = 32} (omega arith)) ∙ append-nil c
+
+  none_apart : {n : ℕ} → n ≡ apart (drop end w) (checks_of (take end w)) → eqb n 0 ≡ is_code_block w
+  none_apart {n} is =
+      let c = checks_of (take end w) in
+      same_from_decides (eqb n 0) (is_code_block w) (
+        λ t. apart-zero (drop end w) c same_length (omega (arith, is, eqb-true n 0 t)),
+        λ e. eq-eqb n 0 (is ∙ ap (apart (drop end w)) (sym e) ∙ apart_self (drop end w)),
+      )
       (checks_here, here_code)
+
+  pub code_tested : {n : ℕ} {a : Result ℕ Refusal} {m : List ℕ} (d : List ℕ) → length d ≡ 32 → end ≤ 223
+      → leaving a m ≡ checking_of (take (end - 0) w) d
+      → n ≡ apart (take (length w - end) (drop end w)) m → eqb n 0 ≡ is_code_block w
+  code_tested d room most made is =
+      let all : end - 0 ≡ end = omega arith in
+      none_apart (is ∙ ap₂ apart tail_part (fresh_checks d room most (rw all at made)))
+
+  pub code_compared : {r : Bool} {m : List ℕ} → m ≡ checks_of (take end w)
+      → r ≡ pointwise eqb (take (length w - end) (drop end w)) m → r ≡ is_code_block w
+  code_compared {r} fresh is =
+      let same = is ∙ ap₂ (pointwise eqb) tail_part fresh in
+      same_from_decides r (is_code_block w) (slice_eq-Decides Decides-eqb _ _ r same) (checks_here, here_code)
+
+  none_left : is_code_block w ≡ true → xors (drop end w) (checks_of (take end w)) ≡ replicate 32 0
+  none_left t =
+      ap (λ (l : List ℕ). xors l (checks_of (take end w))) (checks_here t) ∙ xors_self (checks_of (take end w))
+      ∙ ap (λ (n : ℕ). replicate n 0) (length-checks_of (take end w))
+
+  left_none : xors (drop end w) (checks_of (take end w)) ≡ replicate 32 0 → is_code_block w ≡ true
+  left_none e =
+      here_code (xors_equal _ _ same_length (e ∙ ap (λ (n : ℕ). replicate n 0) (sym length_end)))
 
   pub clean_tested : {r : Bool} {m : List ℕ} → m ≡ xors (drop end w) (checks_of (take end w))
       → r ≡ pointwise eqb m (replicate 32 0) → r ≡ is_code_block w
   clean_tested {r} made is =
-      let c = checks_of (take end w) in
-      let same = length_end ∙ sym (length-checks_of (take end w)) in
-      same_from_decides r (is_code_block w)
-      (slice_eq-Decides Decides-eqb (xors (drop end w) c) (replicate 32 0) r
-      (is ∙ ap (λ (l : List ℕ). pointwise eqb l (replicate 32 0)) made)) (
-        λ t. ap (λ (l : List ℕ). xors l c) (checks_here t) ∙ xors_self c
-            ∙ ap (λ (n : ℕ). replicate n 0) (length-checks_of (take end w)),
-        λ e. here_code (xors_equal (drop end w) c same (e ∙ ap (λ (n : ℕ). replicate n 0) (sym length_end))),
-      )
+      let same = is ∙ ap (λ (l : List ℕ). pointwise eqb l (replicate 32 0)) made in
+      same_from_decides r (is_code_block w) (slice_eq-Decides Decides-eqb _ _ r same) (none_left, left_none)
 
 -- ---- the remainder, added in place
 
@@ -107,8 +136,8 @@ pub sum_next : (w v : List ℕ) (end : ℕ) {d : List ℕ} {i : ℕ} → length 
     → InPlace (elements (xors (drop end w) v)) v (set d i (bit_xor (get_or d i 0) (get_or w (end + i) 0))) (i + 1)
 sum_next w v end {d} {i} same p h =
     in_place_next _ _ p h
-    (ap₂ bit_xor (p.left i (omega arith)) (sym (get_or-drop end w i 0)) ∙ xor_comm (get_or v i 0) (get_or (drop end w) i 0)
-    ∙ sym (get_or-xors (drop end w) v i same))
+    (ap₂ bit_xor (p.left i (omega arith)) (sym (get_or-drop end w i 0))
+    ∙ xor_comm (get_or v i 0) (get_or (drop end w) i 0) ∙ sym (get_or-xors (drop end w) v i same))
 
 pub sum_end : (w v : List ℕ) (end : ℕ) {d : List ℕ} {i : ℕ} → length (drop end w) ≡ length v
     → InPlace (elements (xors (drop end w) v)) v d i → length v ≤ i → d ≡ xors (drop end w) v

@@ -49,7 +49,8 @@ pub fn propose_one(f: Format, s: &[u8], out: &mut [u8]) -> Result<usize, Refusal
 }
 
 // As `propose_one`, but with up to 16 wrong bytes behind the length byte mended: all that the code can tell
-// (12.8.3.2: E = 16).
+// (12.8.3.2: E = 16). What the two share is `receive`: they differ in the mender, and this one may leave a word changed
+// that it did not mend, so that the received word is placed again.
 pub fn propose(f: Format, s: &[u8], out: &mut [u8]) -> Result<usize, Refusal>
     ensures { leaving result out.new ≡ proposing_of 16 f s.now out.old }
 {

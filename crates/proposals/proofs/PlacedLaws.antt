@@ -23,7 +23,7 @@ use Rattle.answers.specs.Outcome.{Outcome, leaving}
 use Rattle.answers.specs.declared.Refusal.{Refusal}
 use Rattle.ground.specs.Apart.{apart}
 use Rattle.ground.specs.Bytes.{Bytes}
-use Rattle.ground.proofs.CaseLaws.{by_test, zero_not_one}
+use Rattle.ground.proofs.CaseLaws.{by_test}
 use Rattle.frame.specs.declared.Format.{Format}
 use Rattle.frame.specs.declared.Frame.{Frame}
 use Rattle.frame.specs.Formats.{sizes, size_for}

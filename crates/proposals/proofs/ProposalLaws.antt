@@ -1,6 +1,6 @@
 -- Judging and making proposals, by cases (specs/Proposals), and when one is taken (specs/TakenWith).
---     size_in-nil, size_in_bad, size_in_long, size_in_is       the size by the first byte
---     proposal_refused, -short, -too-short, -no-code, -far, -taken    judging a proposal
+--     size_in_is           the size by the first byte
+--     proposal_compared, compared_no_code, -far, -taken    judging a proposal
 --     proposing_refused, -short, -no-room, -done           making one
 --     size_in-accepted     what an accepted size says
 --     taken_exactly       a proposal is taken with d exactly where `TakenWith` says so
@@ -22,7 +22,6 @@ use Rattle.answers.specs.declared.Refusal.{Refusal}
 use Rattle.ground.specs.Apart.{apart}
 use Rattle.ground.specs.Bytes.{Bytes}
 use Rattle.ground.proofs.ByteLaws.{bytes_take, bytes_drop}
-use Rattle.ground.proofs.CaseLaws.{zero_not_one}
 use Rattle.frame.specs.declared.Format.{Format}
 use Rattle.frame.specs.declared.Frame.{Frame}
 use Rattle.frame.specs.Formats.{sizes, size_for}
@@ -36,11 +35,6 @@ use Rattle.proposals.proofs.CodeLaws.{is_code_block_code, code-is_code_block}
 
 -- ---- the size by the first byte
 
-pub size_in-nil : (f : Format) (s : List ℕ) → length s < 1 → size_in f s ≡ Err Refusal.Short
-unfolding size_in
-size_in-nil f [] h = refl
-size_in-nil f (l ∷ s) h = absurd (omega arith)
-
 module _ (f : Format) (s : List ℕ) (some : 1 ≤ length s) where
   size_in_by : size_in f s ≡ not_too_long (size_for f (get_or s 0 0))
   unfolding size_in
@@ -50,15 +44,7 @@ module _ (f : Format) (s : List ℕ) (some : 1 ≤ length s) where
       by [] h = absurd (omega arith)
       by (l ∷ v) h = refl
 
-  pub size_in_bad : {r : Refusal} → size_for f (get_or s 0 0) ≡ Err r → size_in f s ≡ Err r
-  unfolding not_too_long
-  size_in_bad e = size_in_by ∙ ap not_too_long e
-
   module _ {z n : ℕ} (sized : size_for f (get_or s 0 0) ≡ Ok (sizes z n)) where
-    pub size_in_long : 223 < z → size_in f s ≡ Err Refusal.TooLong
-    unfolding not_too_long
-    size_in_long h = size_in_by ∙ ap not_too_long sized ∙ rw (lt-ltb 223 z h)
-
     pub size_in_is : z ≤ 223 → size_in f s ≡ Ok (sizes z n)
     unfolding not_too_long
     size_in_is h = size_in_by ∙ ap not_too_long sized ∙ rw (le-ltb 223 z h)
@@ -89,20 +75,8 @@ size_in-accepted f (l ∷ s) e = let p = not_long (size_for f l) e in record { s
 -- ---- judging a proposal
 
 module _ (f : Format) (p s : List ℕ) where
-  pub proposal_refused : {r : Refusal} → size_in f p ≡ Err r → proposal_of f p s ≡ Err r
-  unfolding proposal_of proposal_by
-  proposal_refused e = rw e
-
   module _ {z n : ℕ} (sized : size_in f p ≡ Ok (sizes z n)) where
-    pub proposal_short : length p < z + 32 → proposal_of f p s ≡ Err Refusal.Short
-    unfolding proposal_of proposal_by
-    proposal_short h = rw (sized, lt-ltb (length p) (z + 32) h)
-
     module _ (whole : z + 32 ≤ length p) where
-      pub proposal_too_short : length s < z + 34 → proposal_of f p s ≡ Err Refusal.Short
-      unfolding proposal_of proposal_by
-      proposal_too_short h = rw (sized, le-ltb (length p) (z + 32) whole, lt-ltb (length s) (z + 34) h)
-
       pub proposal_compared :
           z + 34 ≤ length s → proposal_of f p s ≡ compared (received z s) (take (z + 32) p)
       unfolding proposal_of proposal_by
