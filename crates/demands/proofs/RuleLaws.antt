@@ -13,10 +13,10 @@ use Prim.Native.Nat.{ℕ, ◌≤◌, ◌<◌}
 use borrow.Author.Tests.{ltb-true, ltb-false}
 use native.Mathlib.Omega.{arith}
 use lib.Dec.{ltb}
+use Rattle.std.specs.Prelude.{Ok, Err}
 use Rattle.answers.specs.Outcome.{Outcome, leaving}
 use Rattle.answers.specs.Refusals.{number_of, value_of}
 use Rattle.answers.specs.declared.Refusal.{Refusal}
-use Rattle.answers.specs.declared.Written.{Written}
 use Rattle.ground.proofs.CaseLaws.{zero_not_one}
 use Rattle.demands.specs.Rules.{Rule, ◌when◌else◌, ◌showing◌else◌, Gives, Passes, Accepts, Refuses, Judged, JudgedLent}
 
@@ -121,7 +121,7 @@ pub never_refused :
     → (x : Outcome A) (r : Refusal) → x ≡ record { answer = a; memory = m } → x.answer ≡ refused r → ⊥
 never_refused {A} clash x r is e = clash r (ap (λ (o : Outcome A). o.answer) (sym is) ∙ e)
 
-pub written_refused : {size : ℕ} (r : Refusal) → Written.Accepted size ≡ Written.Refused r → ⊥
+pub written_refused : {size : ℕ} (r : Refusal) → Ok size ≡ Err r → ⊥
 written_refused r e = zero_not_one (cc)
 
 pub record Tells (t : Bool) (P : Type 0) : Type 0 where
