@@ -17,6 +17,7 @@ use lib.Dec.{eqb}
 use lib.ListN.{length, get_or, set, length-set}
 use lib.Seq.{get_or-set_same, get_or-set_other}
 use lib.Pow.{shr-shr}
+use Rattle.std.specs.Prelude.{Option, Some, None, Ok, Err}
 use Rattle.chips.proofs.WindowLaws.{word_at_window}
 use Rattle.chips.specs.Chips.{word_at}
 use Rattle.ground.proofs.TableLaws.{get_or_values}
@@ -25,10 +26,7 @@ use Rattle.line.proofs.JoiningLaws.{Joining, joining_start, joining_step, joinin
 use Rattle.line.specs.Codes.{LineCode, code_of, word_value, number_for}
 use Rattle.line.specs.Decoding.{value_at}
 use Rattle.line.specs.Inner.{half_of, listed_for, row_of, Halves, byte_read}
-use Rattle.line.specs.declared.decoding.Byte.TheVariants as byte
 use Rattle.line.specs.declared.codes.Code.TheVariants.{ThreeOfSix}
-use Rattle.line.specs.declared.codes.Value.{Value}
-use Rattle.line.specs.declared.codes.Value.TheVariants.{Is, NoWord}
 
 abbrev κ : LineCode
 κ = code_of ThreeOfSix
@@ -58,17 +56,17 @@ Halves-step {n} {t} {x} w h is =
       entry = λ y l. Halves-set w h is y (omega arith) (eqb y n) refl;
     }
 
-pub half_of_is : (y : ℕ) {x : ℕ} → x ≡ half_of (word_value κ y) → x < 16 → word_value κ y ≡ Is x
+pub half_of_is : (y : ℕ) {x : ℕ} → x ≡ half_of (word_value κ y) → x < 16 → word_value κ y ≡ Some x
 half_of_is y {x} e h = by (word_value κ y) e where
-  by : (v : Value) → x ≡ half_of v → v ≡ Is x
-  by (Is z) e = ap Is (sym e)
-  by NoWord e = absurd (omega arith)
+  by : (v : Option ℕ) → x ≡ half_of v → v ≡ Some x
+  by (Some z) e = ap Some (sym e)
+  by None e = absurd (omega arith)
 
-pub half_of_none : (y : ℕ) {x : ℕ} → x ≡ half_of (word_value κ y) → 15 < x → word_value κ y ≡ NoWord
+pub half_of_none : (y : ℕ) {x : ℕ} → x ≡ half_of (word_value κ y) → 15 < x → word_value κ y ≡ None
 half_of_none y {x} e h = by (word_value κ y) refl e where
-  by : (v : Value) → word_value κ y ≡ v → x ≡ half_of v → v ≡ NoWord
-  by (Is z) found e = absurd (omega (arith, (word_value_is κ y z found).0))
-  by NoWord found e = refl
+  by : (v : Option ℕ) → word_value κ y ≡ v → x ≡ half_of v → v ≡ None
+  by (Some z) found e = absurd (omega (arith, (word_value_is κ y z found).0))
+  by None found e = refl
 
 -- the 32 chips from the byte of chip `at` on, shifted down until the byte's last chip is the lowest
 abbrev half_at : List ℕ → ℕ → ℕ
@@ -114,20 +112,20 @@ module _ {t : List ℕ} (table : Halves 64 t) (s : List ℕ) (at : ℕ) {x : ℕ
   after_high h =
       joining_step before (omega arith) (half_of_is (word_at s (at + 0 * 6) 6) high_in_is (omega arith))
 
-  pub byte_read_first : 15 < high_in t x at → byte_read κ s at ≡ byte.Bad 0
+  pub byte_read_first : 15 < high_in t x at → byte_read κ s at ≡ Err 0
   byte_read_first h =
       joining_bad before (omega arith) (half_of_none (word_at s (at + 0 * 6) 6) high_in_is h)
 
   module _ (h : high_in t x at ≤ 15) where
-    pub byte_read_second : 15 < low_in t x at → byte_read κ s at ≡ byte.Bad 1
+    pub byte_read_second : 15 < low_in t x at → byte_read κ s at ≡ Err 1
     byte_read_second l =
         joining_bad (after_high h) (omega arith) (half_of_none (word_at s (at + 1 * 6) 6) low_in_is l)
 
     pub byte_read_both : low_in t x at ≤ 15
-        → byte_read κ s at ≡ byte.Is (high_in t x at * 16 + low_in t x at)
+        → byte_read κ s at ≡ Ok (high_in t x at * 16 + low_in t x at)
     byte_read_both l =
         let two = joining_step (after_high h) (omega arith)
         (half_of_is (word_at s (at + 1 * 6) 6) low_in_is (omega arith)) in
         let same : (0 * 2 ^ 4 + high_in t x at) * 2 ^ 4 + low_in t x at
         ≡ high_in t x at * 16 + low_in t x at = omega arith in
-        joining_end two (omega arith) ∙ ap byte.Is same
+        joining_end two (omega arith) ∙ ap Ok same

@@ -5,18 +5,11 @@ ghost use Rattle.line.specs.Inner.{unit_of, listed_for, row_of, Halves};
 ghost use Rattle.line.specs.declared.codes.Code.TheVariants.{ThreeOfSix, Manchester};
 
 // Which code words stand for the bits.
-#[derive(Clone, Copy)]
+#[derive(Clone, Copy, Debug, PartialEq, Eq)]
 pub enum Code {
     Nrz,
     ThreeOfSix,
     Manchester,
-}
-
-// What a word of chips stands for: a byte (NRZ), a half-byte (three-of-six) or a bit (Manchester).
-#[derive(Clone, Copy)]
-pub enum Value {
-    Is(u8),
-    NoWord,
 }
 
 // 7.4.2, Table 10: the code words of 0 to 15.
@@ -24,59 +17,73 @@ const CODE_WORDS: [u8; 16] = [
     22, 13, 14, 11, 28, 25, 26, 19, 44, 37, 38, 35, 52, 49, 50, 41,
 ];
 
-// The bits of a word.
-pub(crate) fn bits(code: Code) -> usize
-    ensures { result ≡ (code_of code).bits }
-{
-    match code {
-        Code::Nrz => 8,
-        Code::ThreeOfSix => 4,
-        Code::Manchester => 1,
+impl Code {
+    // The bits of a word.
+    pub(crate) fn bits(self) -> usize
+        ensures { result ≡ (code_of self).bits }
+    {
+        match self {
+            Code::Nrz => 8,
+            Code::ThreeOfSix => 4,
+            Code::Manchester => 1,
+        }
     }
-}
 
-// The chips of a word.
-pub fn width(code: Code) -> usize
-    ensures { result ≡ (code_of code).chips }
-{
-    match code {
-        Code::Nrz => 8,
-        Code::ThreeOfSix => 6,
-        Code::Manchester => 2,
+    // The chips of a word.
+    pub fn width(self) -> usize
+        ensures { result ≡ (code_of self).chips }
+    {
+        match self {
+            Code::Nrz => 8,
+            Code::ThreeOfSix => 6,
+            Code::Manchester => 2,
+        }
     }
-}
 
-// The words of a byte.
-pub(crate) fn per_byte(code: Code) -> usize
-    ensures { result ≡ 8 / (code_of code).bits }
-{
-    match code {
-        Code::Nrz => 1,
-        Code::ThreeOfSix => 2,
-        Code::Manchester => 8,
+    // The words of a byte.
+    pub(crate) fn per_byte(self) -> usize
+        ensures { result ≡ 8 / (code_of self).bits }
+    {
+        match self {
+            Code::Nrz => 1,
+            Code::ThreeOfSix => 2,
+            Code::Manchester => 8,
+        }
     }
-}
 
-// The chips of a byte.
-pub(crate) fn unit(code: Code) -> usize
-    ensures { result ≡ unit_of (code_of code) }
-{
-    match code {
-        Code::Nrz => 8,
-        Code::ThreeOfSix => 12,
-        Code::Manchester => 16,
+    // The chips of a byte.
+    pub(crate) fn unit(self) -> usize
+        ensures { result ≡ unit_of (code_of self) }
+    {
+        match self {
+            Code::Nrz => 8,
+            Code::ThreeOfSix => 12,
+            Code::Manchester => 16,
+        }
     }
-}
 
-// The code word of x.
-pub(crate) fn word_of(code: Code, x: usize) -> usize
-    requires { x < 2 ^ (code_of code).bits }
-    ensures { result ≡ (code_of code).word_of x }
-{
-    match code {
-        Code::Nrz => x,
-        Code::ThreeOfSix => chips::wide(CODE_WORDS[x]),
-        Code::Manchester => 2 - x,
+    // The code word of x.
+    pub(crate) fn word_of(self, x: usize) -> usize
+        requires { x < 2 ^ (code_of self).bits }
+        ensures { result ≡ (code_of self).word_of x }
+    {
+        match self {
+            Code::Nrz => x,
+            Code::ThreeOfSix => chips::wide(CODE_WORDS[x]),
+            Code::Manchester => 2 - x,
+        }
+    }
+
+    // What the word y stands for. Every word of NRZ is a code word.
+    pub(crate) fn word_value(self, y: usize) -> Option<u8>
+        requires { y < 2 ^ (code_of self).chips }
+        ensures { result ≡ word_value (code_of self) y }
+    {
+        match self {
+            Code::Nrz => Some(y as u8),
+            Code::ThreeOfSix => half_of(y),
+            Code::Manchester => bit_of(y),
+        }
     }
 }
 
@@ -136,39 +143,27 @@ pub(crate) fn halves() -> [u8; 64]
 }
 
 // What the three-of-six word y stands for.
-fn half_of(y: usize) -> Value
+fn half_of(y: usize) -> Option<u8>
     requires { y < 64 }
     ensures { result ≡ word_value (code_of ThreeOfSix) y }
 {
     let half = listed(y);
     if half < 16 {
-        Value::Is(half)
+        Some(half)
     } else {
-        Value::NoWord
+        None
     }
 }
 
 // What the Manchester word y stands for.
-fn bit_of(y: usize) -> Value
+fn bit_of(y: usize) -> Option<u8>
     ensures { result ≡ word_value (code_of Manchester) y }
 {
     if y == 1 {
-        return Value::Is(1);
+        return Some(1);
     }
     if y == 2 {
-        return Value::Is(0);
+        return Some(0);
     }
-    Value::NoWord
-}
-
-// What the word y stands for. Every word of NRZ is a code word.
-pub(crate) fn word_value(code: Code, y: usize) -> Value
-    requires { y < 2 ^ (code_of code).chips }
-    ensures { result ≡ word_value (code_of code) y }
-{
-    match code {
-        Code::Nrz => Value::Is(y as u8),
-        Code::ThreeOfSix => half_of(y),
-        Code::Manchester => bit_of(y),
-    }
+    None
 }

@@ -1,15 +1,14 @@
 // Bytes, encoded into chips.
 ghost use Rattle.std.specs.Prelude.{◌≡◌, ◌++◌, ◌+◌, ◌*◌, ◌≤◌, length, drop};
-ghost use Rattle.answers.specs.Outcome.{Outcome};
-ghost use Rattle.answers.specs.declared.Written.{Written};
+ghost use Rattle.answers.specs.Outcome.{leaving};
 ghost use Rattle.chips.specs.Chips.{gather};
 ghost use Rattle.line.specs.Codes.{code_of};
 ghost use Rattle.line.specs.Encoding.{encoding, encoded_size, encoded};
 ghost use Rattle.line.specs.Inner.{unit_of, sent_chip};
 
 use crate::codes::Code;
-use crate::{codes, digits};
-use answers::{Refusal, Written};
+use crate::digits;
+use answers::Refusal;
 
 // How many bytes the code words of n bytes take more than n.
 fn more(code: Code, n: usize) -> usize
@@ -30,14 +29,14 @@ fn coded_byte(code: Code, s: &[u8], i: usize) -> usize
     if s.len() <= i {
         return 0;
     }
-    let b = codes::bits(code);
-    let w = codes::width(code);
-    let m = codes::per_byte(code);
+    let b = code.bits();
+    let w = code.width();
+    let m = code.per_byte();
     let x = chips::wide(s[i]);
     let mut all: usize = 0;
     let mut k: usize = 0;
     while k < m {
-        let word = codes::word_of(code, digits::part(x, b, 8 - b - k * b));
+        let word = code.word_of(digits::part(x, b, 8 - b - k * b));
         all = digits::join(all, w, word);
         k += 1;
     }
@@ -50,7 +49,7 @@ fn pour(code: Code, s: &[u8], size: usize, out: &mut [u8])
     requires { (size ≡ encoded_size (code_of code) (length s.now)) × (size ≤ length out.old) }
     ensures { out.new ≡ encoding (code_of code) s.now ++ drop size out.old }
 {
-    let unit = codes::unit(code);
+    let unit = code.unit();
     let mut held: usize = 0;
     let mut count: usize = 0;
     let mut i: usize = 0;
@@ -70,19 +69,18 @@ fn pour(code: Code, s: &[u8], size: usize, out: &mut [u8])
 
 // Writes the code words of `s` into `out`, from its first byte on; refusal 4. `s` may have any length: the sizes are
 // compared without a sum that could wrap.
-pub fn encode(code: Code, s: &[u8], out: &mut [u8]) -> Written
-    ensures { ◌≡◌ {A = Outcome Written} (record { answer = result; memory = out.new })
-        (encoded (code_of code) s.now out.old) }
+pub fn encode(code: Code, s: &[u8], out: &mut [u8]) -> Result<usize, Refusal>
+    ensures { leaving result out.new ≡ encoded (code_of code) s.now out.old }
 {
     let n = s.len();
     if out.len() < n {
-        return Written::Refused(Refusal::NoRoom);
+        return Err(Refusal::NoRoom);
     }
     let extra = more(code, n);
     if out.len() - n < extra {
-        return Written::Refused(Refusal::NoRoom);
+        return Err(Refusal::NoRoom);
     }
     let size = n + extra;
     pour(code, s, size, out);
-    Written::Accepted(size)
+    Ok(size)
 }

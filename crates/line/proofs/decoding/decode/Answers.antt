@@ -4,15 +4,15 @@ use mathlib.Core.List.{List, ◌++◌}
 use Prim.Native.Nat.{ℕ, ◌+◌, ◌*◌, ◌≤◌, ◌<◌}
 use native.Mathlib.Omega.{arith}
 use lib.ListN.{length, drop}
+use Rattle.std.specs.Prelude.{Result, Ok, ⊤}
 use Rattle.answers.specs.Outcome.{Outcome}
+use Rattle.answers.specs.declared.Refusal.{Refusal}
 use Rattle.chips.proofs.RangeLaws.{InBuffer, in_range_kept, in_range_refused}
 use Rattle.line.proofs.AnswerLaws.{decoded_out, decoded_short, decoded_bad, decoded_no_room, decoded-accepted}
 use Rattle.line.proofs.CodeLaws.{lawful, words_in_le, chips_in_ge, chips_in-le}
 use Rattle.line.proofs.GoodRunLaws.{good_run-le}
 use Rattle.line.specs.Codes.{code_of, words_in, chips_in}
 use Rattle.line.specs.Decoding.{value_at, good_run}
-use Rattle.line.specs.declared.decoding.Decoded.{Decoded}
-use Rattle.line.specs.declared.decoding.Decoded.TheVariants.{Accepted}
 use Rattle.line.proofs.decoding.decode.Goals.{After-width, Else-good-words, Else-not-in_range, Else-s-start}
 use Rattle.line.proofs.decoding.decode.Goals as goal
 
@@ -65,8 +65,8 @@ all_words c =
       good_run-le (value_at κ a.s.now a.start) (words_in κ a.n),
     )
 
-accepted : List ℕ → Outcome Decoded
-accepted m = record { answer = Accepted; memory = m }
+accepted : List ℕ → Outcome (Result ⊤ Refusal)
+accepted m = record { answer = Ok tt; memory = m }
 
 pub returns-then-not-in_range : goal.returns-then-not-in_range
 returns-then-not-in_range c =

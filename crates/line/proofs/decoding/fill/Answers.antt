@@ -7,7 +7,7 @@ use Rattle.line.proofs.CodeLaws.{lawful, words_in_le}
 use Rattle.line.proofs.FillingLaws.{filling_start, filling_fits, filling_step, filling_bad, filling_end, filling_length}
 use Rattle.line.specs.Codes.{code_of, words_in}
 use Rattle.line.specs.Decoding.{value_at, good_run}
-use Rattle.line.proofs.decoding.fill.Goals.{At-loop-i, In-Bad, In-loop-i}
+use Rattle.line.proofs.decoding.fill.Goals.{At-loop-i, In-Err, In-loop-i}
 use Rattle.line.proofs.decoding.fill.Goals as goal
 
 -- the room is as long as it was
@@ -26,14 +26,14 @@ fits c =
     (given.0, filling_fits c.loop-i.invariant c.loop-i-test.true given.1)
 
 -- the first word that is none
-bad : (c : In-Bad)
+bad : (c : In-Err)
     → let a = c.args in
     let κ = code_of a.code in
-    let place = c.loop-i.i * c.per_byte-m.result + c.in-Bad.k in
+    let place = c.loop-i.i * c.per_byte-m.result + c.in-Err.k in
     (place ≡ good_run (value_at κ a.s.now a.start) (words_in κ a.n)) × (place < words_in κ a.n)
 bad c =
     let loop = c.loop-i in
-    filling_bad loop.invariant c.loop-i-test.true (sym c.byte_at.ensures ∙ c.in-Bad.is)
+    filling_bad loop.invariant c.loop-i-test.true (sym c.byte_at.ensures ∙ c.in-Err.is)
 
 pub loop-i-init : goal.loop-i-init
 loop-i-init c =
@@ -56,16 +56,16 @@ bounds-room-i c = omega (arith, kept (goal.at.bounds-room-i c).At-loop-i)
 pub overflow_mul-result : goal.overflow_mul-result
 overflow_mul-result c =
     let a = c.args in
-    omega (arith, (bad (goal.at.overflow_mul-result c).In-Bad).1, words_in_le (code_of a.code) a.n)
+    omega (arith, (bad (goal.at.overflow_mul-result c).In-Err).1, words_in_le (code_of a.code) a.n)
 
 pub overflow_add-result : goal.overflow_add-result
 overflow_add-result c =
     let a = c.args in
-    omega (arith, (bad (goal.at.overflow_add-result c).In-Bad).1, words_in_le (code_of a.code) a.n)
+    omega (arith, (bad (goal.at.overflow_add-result c).In-Err).1, words_in_le (code_of a.code) a.n)
 
-pub returns-in-Bad : goal.returns-in-Bad
-returns-in-Bad c =
-    ((bad (goal.at.returns-in-Bad c).In-Bad).0, λ e. absurd (off (bad (goal.at.returns-in-Bad c).In-Bad).1 e)) where
+pub returns-in-Err : goal.returns-in-Err
+returns-in-Err c =
+    ((bad (goal.at.returns-in-Err c).In-Err).0, λ e. absurd (off (bad (goal.at.returns-in-Err c).In-Err).1 e)) where
       off : {p w : ℕ} → p < w → p ≡ w → ⊥
       off h e = omega arith
 
@@ -73,7 +73,7 @@ pub loop-i-preserved : goal.loop-i-preserved
 loop-i-preserved c =
     let loop = c.loop-i in
     filling_step loop.invariant c.loop-i-test.true (omega arith)
-    (sym c.byte_at.ensures ∙ c.in-Is.is)
+    (sym c.byte_at.ensures ∙ c.in-Ok.is)
 
 pub overflow_mul-result-2 : goal.overflow_mul-result-2
 overflow_mul-result-2 c =

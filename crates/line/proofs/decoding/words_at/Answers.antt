@@ -2,11 +2,11 @@ use mathlib.Core.Path.{◌≡◌, ap, sym, ◌∙◌}
 use native.Mathlib.Nat.{mod-lt}
 use native.Mathlib.Omega.{arith}
 use lib.Pow.{pow_pos}
+use Rattle.std.specs.Prelude.{Some}
 use Rattle.line.proofs.CodeLaws.{lawful, unit_of_ge, sizes-le}
 use Rattle.line.proofs.JoiningLaws.{joining_start, joining_le, joining_lt, joining_inside, joining_value, joining_step, joining_room, joining_bad, joining_end}
 use Rattle.line.specs.Codes.{code_of}
 use Rattle.line.specs.Decoding.{value_at}
-use Rattle.line.specs.declared.codes.Value.TheVariants.{Is}
 use Rattle.line.proofs.decoding.words_at.Goals.{After-word_value}
 use Rattle.line.proofs.decoding.words_at.Goals as goal
 
@@ -64,13 +64,13 @@ returns-in_default c =
 pub join-x-requires : goal.join-x-requires
 join-x-requires c =
     let inv = c.loop-k.invariant in
-    let is = valueAt-read (goal.at.join-x-requires c).After-word_value ∙ (c.in-Is.is ∙ ap Is (sym c.wide.ensures.0)) in
+    let is = valueAt-read (goal.at.join-x-requires c).After-word_value ∙ (c.in-Some.is ∙ ap Some (sym c.wide.ensures.0)) in
     omega (arith, sizes-le inv.sizes, joining_room inv c.loop-k-test.true is)
 
 pub loop-k-preserved : goal.loop-k-preserved
 loop-k-preserved c =
     let inv = c.loop-k.invariant in
-    let is = valueAt-read (goal.at.loop-k-preserved c).After-word_value ∙ (c.in-Is.is ∙ ap Is (sym c.wide.ensures.0)) in
+    let is = valueAt-read (goal.at.loop-k-preserved c).After-word_value ∙ (c.in-Some.is ∙ ap Some (sym c.wide.ensures.0)) in
     rw c.join-x.ensures (joining_step inv c.loop-k-test.true is)
 
 pub overflow_cast-result : goal.overflow_cast-result

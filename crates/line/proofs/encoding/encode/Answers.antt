@@ -4,17 +4,17 @@ use mathlib.Core.List.{List}
 use Prim.Native.Nat.{ℕ, ◌+◌}
 use native.Mathlib.Omega.{arith}
 use lib.ListN.{length}
+use Rattle.std.specs.Prelude.{Result, Ok}
 use Rattle.answers.specs.Outcome.{Outcome}
-use Rattle.answers.specs.declared.Written.{Written}
-use Rattle.answers.specs.declared.Written.TheVariants.{Accepted}
+use Rattle.answers.specs.declared.Refusal.{Refusal}
 use Rattle.line.proofs.AnswerLaws.{encoded_no_room, encoded-accepted}
 use Rattle.line.proofs.CodeLaws.{lawful}
 use Rattle.line.proofs.EncodingLaws.{encoded_size_ge}
 use Rattle.line.specs.Codes.{code_of}
 use Rattle.line.proofs.encoding.encode.Goals as goal
 
-accepted : ℕ → List ℕ → Outcome Written
-accepted size m = record { answer = Accepted size; memory = m }
+accepted : ℕ → List ℕ → Outcome (Result ℕ Refusal)
+accepted size m = record { answer = Ok size; memory = m }
 
 pub returns-then-out-n : goal.returns-then-out-n
 returns-then-out-n c =

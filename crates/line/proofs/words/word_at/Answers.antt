@@ -62,8 +62,6 @@ word_value-requires c =
     let a = c.args in
     rw (c.narrow.ensures, ← c.width-w.ensures) (word_at_lt a.s.now a.at c.width-w.result)
 
-pub returns-in-Is : goal.returns-in-Is
-returns-in-Is c = sym (passed (goal.at.returns-in-Is c).After-word_value ∙ ap word_for c.in-Is.is)
-
-pub returns-in-NoWord : goal.returns-in-NoWord
-returns-in-NoWord c = sym (passed (goal.at.returns-in-NoWord c).After-word_value ∙ ap word_for c.in-NoWord.is)
+pub returns : goal.returns
+returns c =
+    c.ok_or.ensures.value ∙ sym (passed (goal.at.returns c).After-word_value)

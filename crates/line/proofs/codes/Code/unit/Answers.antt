@@ -1,5 +1,5 @@
--- `line::codes::per_byte` meets its contract, code by code.
-use Rattle.line.proofs.codes.per_byte.Goals as goal
+-- `line::codes::unit` meets its contract, code by code.
+use Rattle.line.proofs.codes.Code.unit.Goals as goal
 
 pub returns-in-Nrz : goal.returns-in-Nrz
 returns-in-Nrz c = rw c.in-Nrz.is

@@ -6,7 +6,7 @@ use native.Mathlib.Omega.{arith}
 use lib.Dec.{eqb, eqb→eq}
 use lib.ListN.{get_or}
 use Rattle.ground.proofs.TableLaws.{all_below_at}
-use Rattle.line.proofs.codes.word_of.Goals as goal
+use Rattle.line.proofs.codes.Code.word_of.Goals as goal
 
 manchester : (x : ℕ) → x < 2 → 2 - x ≡ get_or (2 ∷ 1 ∷ []) x 0
 manchester x h =

@@ -4,7 +4,7 @@ use native.Mathlib.Omega.{arith}
 use Prim.Native.Nat.{◌^◌, ◌<◌}
 use Rattle.line.proofs.CodeLaws.{lawful}
 use Rattle.line.specs.declared.codes.Code.TheVariants.{Nrz}
-use Rattle.line.proofs.codes.word_value.Goals as goal
+use Rattle.line.proofs.codes.Code.word_value.Goals as goal
 
 pub overflow_cast-result : goal.overflow_cast-result
 overflow_cast-result c =
