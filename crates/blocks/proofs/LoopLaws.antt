@@ -12,7 +12,7 @@ use Prim.Native.Nat.{ℕ, ◌+◌, ◌-◌, ◌≤◌, ◌<◌, min}
 use native.Mathlib.Omega.{arith}
 use lib.ListN.{length, take, drop, length-drop}
 use lib.Seq.{paste, length-paste}
-use Rattle.blocks.specs.declared.Checks.TheVariants.{Right, Wrong}
+use Rattle.std.specs.Prelude.{None}
 use Rattle.blocks.specs.Spans.{sealed, framed, payload, block_ok, first_wrong, size_of, cut, spans}
 use Rattle.blocks.specs.Places.{place_in, check_in}
 use Rattle.blocks.proofs.WalkLaws.{filled, filled_start, filled_end}
@@ -33,7 +33,7 @@ checking_start s first later t some fits =
     record { some = some; counted = omega arith; fits = omega arith; same = refl }
 
 module _ {s : List ℕ} {first later t at most left block : ℕ} (w : Checking s first later t at most left block) where
-  pub checking_end : left ≡ 0 → Right ≡ first_wrong 1 (spans first later t) s
+  pub checking_end : left ≡ 0 → None ≡ first_wrong 1 (spans first later t) s
   unfolding first_wrong cut
   checking_end none = rw none at w.same
 

@@ -16,11 +16,11 @@ use borrow.Author.Tests.{ltb-true, ltb-false}
 use lib.Dec.{ltb}
 use lib.ListN.{length, take, drop, get_or, set, length-set, length-drop, take-append-drop, get_or-append}
 use lib.Seq.{split_at, set_split, set-append_left, length-take-le, take-set-lt, drop-set-lt, take-set-le, drop-set-add, get_or-append-add, get_or-set_same, get_or-set_other}
+use Rattle.std.specs.Prelude.{None}
 use Rattle.ground.proofs.BehindLaws.{set-append-add}
 use Rattle.crc.specs.Check.{check_of}
 use Rattle.crc.specs.CheckUpdate.{updated_check}
 use Rattle.crc.proofs.CheckLaws.{check_of_changed}
-use Rattle.blocks.specs.declared.Checks.TheVariants.{Right}
 use Rattle.blocks.specs.Spans.{sealed, framed, payload, first_wrong, size_of}
 use Rattle.blocks.specs.Places.{place_in, check_in, check_at, updated_at, mended}
 use Rattle.blocks.proofs.SealLaws.{length_sealed, sealed-append, sealed_stores, get_or_sealed_high, get_or_sealed_low}
@@ -107,7 +107,7 @@ mended_framed-append (k ∷ ks) p t j v size there =
 
 -- THE law of changing: where all checks are right, there is a frame to mend
 pub mended_framed :
-    (b : ℕ) (ks s : List ℕ) (j v : ℕ) → size_of ks ≤ length s → first_wrong b ks s ≡ Right → j < total ks
+    (b : ℕ) (ks s : List ℕ) (j v : ℕ) → size_of ks ≤ length s → first_wrong b ks s ≡ None → j < total ks
     → mended s (place_in ks j) (check_in ks j) v ≡ framed ks (set (payload ks s) j v) ++ drop (size_of ks) s
 mended_framed b ks s j v fits right there =
     let whole : framed ks (payload ks s) ++ drop (size_of ks) s ≡ s

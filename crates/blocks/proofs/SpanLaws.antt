@@ -12,8 +12,7 @@ use Prim.Native.Nat.{ℕ, ◌+◌, ◌≤◌}
 use native.Mathlib.Omega.{arith}
 use lib.ListN.{length, take, drop, length-append, length-drop, drop_of_length-le, take-append-drop}
 use lib.Seq.{take_at, drop_at, take-add, length-take-le}
-use Rattle.blocks.specs.declared.Checks.{Checks}
-use Rattle.blocks.specs.declared.Checks.TheVariants.{Right, Wrong}
+use Rattle.std.specs.Prelude.{Option, Some, None}
 use Rattle.blocks.specs.Spans.{sealed, framed, payload, block_ok, first_wrong, size_of}
 use Rattle.blocks.proofs.SealLaws.{length_sealed, take_sealed, drop_sealed, block_ok_sealed, sealed-take}
 
@@ -57,7 +56,7 @@ payload_framed (k ∷ ks) p t h =
     (payload_sealed ks (take k p) (framed ks (drop k p) ++ t) (length-take-le k p (omega arith))
     ∙ ap (λ (x : List ℕ). take k p ++ x) rest ∙ take-append-drop k p)
 
-pub first_wrong_framed : (b : ℕ) (ks p t : List ℕ) → total ks ≤ length p → first_wrong b ks (framed ks p ++ t) ≡ Right
+pub first_wrong_framed : (b : ℕ) (ks p t : List ℕ) → total ks ≤ length p → first_wrong b ks (framed ks p ++ t) ≡ None
 unfolding framed first_wrong total
 first_wrong_framed b [] p t h = refl
 first_wrong_framed b (k ∷ ks) p t h =
@@ -65,19 +64,19 @@ first_wrong_framed b (k ∷ ks) p t h =
     (first_wrong_sealed ks (take k p) (framed ks (drop k p) ++ t) (length-take-le k p (omega arith)) b
     ∙ first_wrong_framed (b + 1) ks (drop k p) t (simp length-drop (omega arith)))
 
-cond_right : (t : Bool) (b : ℕ) (r : Checks) → cond t r (Wrong b) ≡ Right → (t ≡ true) × (r ≡ Right)
+cond_right : (t : Bool) (b : ℕ) (r : Option ℕ) → cond t r (Some b) ≡ None → (t ≡ true) × (r ≡ None)
 cond_right true b r h = (refl, h)
 cond_right false b r h = (cc, cc)
 
 -- a walk that finds no wrong check found the first one right, and goes on
 pub first_wrong-cons :
-    (b k : ℕ) (ks s : List ℕ) → first_wrong b (k ∷ ks) s ≡ Right
-    → (block_ok k s ≡ true) × (first_wrong (b + 1) ks (drop (k + 2) s) ≡ Right)
+    (b k : ℕ) (ks s : List ℕ) → first_wrong b (k ∷ ks) s ≡ None
+    → (block_ok k s ≡ true) × (first_wrong (b + 1) ks (drop (k + 2) s) ≡ None)
 unfolding first_wrong
 first_wrong-cons b k ks s h = cond_right (block_ok k s) b (first_wrong (b + 1) ks (drop (k + 2) s)) h
 
 pub framed-payload :
-    (b : ℕ) (ks s : List ℕ) → size_of ks ≤ length s → first_wrong b ks s ≡ Right
+    (b : ℕ) (ks s : List ℕ) → size_of ks ≤ length s → first_wrong b ks s ≡ None
     → framed ks (payload ks s) ≡ take (size_of ks) s
 unfolding framed payload size_of
 framed-payload b [] s fits right = refl

@@ -12,7 +12,7 @@ use native.Mathlib.Nat.{not-suc-le-zero, min-zero, add_assoc}
 use native.Mathlib.Omega.{arith}
 use lib.ListN.{length, take, drop, length-drop}
 use lib.Seq.{drop-drop, length-take-le, paste}
-use Rattle.blocks.specs.declared.Checks.TheVariants.{Wrong}
+use Rattle.std.specs.Prelude.{Some}
 use Rattle.blocks.specs.Spans.{sealed, framed, payload, block_ok, first_wrong, size_of, cut, spans}
 use Rattle.blocks.proofs.CutLaws.{spans_turn}
 use Rattle.blocks.proofs.SealLaws.{length_sealed}
@@ -44,7 +44,7 @@ module _ {most later left k : ℕ} (e : k ≡ min most left) (m : 0 < most) (l :
   pub first_wrong_turn :
       (b at : ℕ) (s : List ℕ)
       → let rest = first_wrong (b + 1) (spans later later (left - k)) (drop (at + (k + 2)) s) in
-      first_wrong b (spans most later left) (drop at s) ≡ cond (block_ok k (drop at s)) rest (Wrong b)
+      first_wrong b (spans most later left) (drop at s) ≡ cond (block_ok k (drop at s)) rest (Some b)
   unfolding first_wrong
   first_wrong_turn b at s = rw (spans-cons, ← drop-drop (k + 2) at s)
 

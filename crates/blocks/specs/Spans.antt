@@ -6,14 +6,12 @@
 --     framed ks p          the bytes p cut into spans of ks bytes, each sealed: writing
 --     payload ks s         the bytes of s without the checks: reading
 --     block_ok k s          whether the two bytes behind the first k bytes of s are their check
---     first_wrong b ks s    the first block whose check is wrong, the first one counted as b; Right if none is
+--     first_wrong b ks s    the first block whose check is wrong, the first one counted as b; None if none is
 --     size_of ks            how many bytes the blocks have
 --     spans first later t  t bytes cut from the front: the first span at most `first` bytes, each next at most `later`
 -- Bytes past the end of a list read as 0; every rule above tests the length before it looks. Assumes nothing.
-use Rattle.std.specs.Prelude.{Bool, cond, ◌&&◌, List, [], ◌∷◌, ◌++◌, ℕ, zero, suc, ◌+◌, ◌-◌, ◌/◌, ◌%◌, min, eqb, get_or, take, drop}
+use Rattle.std.specs.Prelude.{Bool, cond, ◌&&◌, List, [], ◌∷◌, ◌++◌, ℕ, zero, suc, ◌+◌, ◌-◌, ◌/◌, ◌%◌, min, eqb, get_or, take, drop, Option, None, Some}
 use Rattle.crc.specs.Check.{check_of}
-use Rattle.blocks.specs.declared.Checks.{Checks}
-use Rattle.blocks.specs.declared.Checks.TheVariants.{Right, Wrong}
 
 unfoldable pub sealed : List ℕ → List ℕ
 sealed q = q ++ (check_of q / 256 ∷ check_of q % 256 ∷ [])
@@ -29,9 +27,9 @@ payload (k ∷ ks) s = take k s ++ payload ks (drop (k + 2) s)
 unfoldable pub block_ok : ℕ → List ℕ → Bool
 block_ok k s = eqb (get_or s k 0) (check_of (take k s) / 256) && eqb (get_or s (k + 1) 0) (check_of (take k s) % 256)
 
-unfoldable pub first_wrong : ℕ → List ℕ → List ℕ → Checks
-first_wrong b [] s = Right
-first_wrong b (k ∷ ks) s = cond (block_ok k s) (first_wrong (b + 1) ks (drop (k + 2) s)) (Wrong b)
+unfoldable pub first_wrong : ℕ → List ℕ → List ℕ → Option ℕ
+first_wrong b [] s = None
+first_wrong b (k ∷ ks) s = cond (block_ok k s) (first_wrong (b + 1) ks (drop (k + 2) s)) (Some b)
 
 unfoldable pub size_of : List ℕ → ℕ
 size_of [] = 0

@@ -9,15 +9,6 @@ ghost use Rattle.std.proofs.Math.Seq.{paste};
 ghost use Rattle.blocks.specs.Places.{place_in, check_in, check_at, mended};
 ghost use Rattle.blocks.specs.Spans.{sealed, framed, payload, block_ok, first_wrong, size_of, spans};
 
-use crc::Updated;
-
-// What the checks behind the spans say: all right, or the first wrong block, counted from 1.
-#[derive(Clone, Copy)]
-pub enum Checks {
-    Right,
-    Wrong(usize),
-}
-
 fn smaller(a: usize, b: usize) -> usize
     ensures { result ≡ min a b }
 {
@@ -42,8 +33,8 @@ fn block_ok(s: &[u8], at: usize, k: usize) -> bool
     check_at(s, end) == check
 }
 
-// The first wrong check among those of the t bytes that s begins with.
-pub fn first_wrong(s: &[u8], first: usize, later: usize, t: usize) -> Checks
+// The first wrong block among those of the t bytes that s begins with, counted from 1; None if all checks are right.
+pub fn first_wrong(s: &[u8], first: usize, later: usize, t: usize) -> Option<usize>
     requires { (0 < first) × ((0 < later) × (size_of (spans first later t) ≤ length s.now)) }
     ensures { result ≡ first_wrong 1 (spans first later t) s.now }
 {
@@ -54,14 +45,14 @@ pub fn first_wrong(s: &[u8], first: usize, later: usize, t: usize) -> Checks
     while 0 < left {
         let k = smaller(most, left);
         if !block_ok(s, at, k) {
-            return Checks::Wrong(block);
+            return Some(block);
         }
         at += k + 2;
         most = later;
         left -= k;
         block += 1;
     }
-    Checks::Right
+    None
 }
 
 // Eight bytes of src from place `from`, copied to dst from place `at`. All are read before the first is stored: so they
@@ -231,7 +222,7 @@ fn mend(s: &mut [u8], byte: usize, check: usize, distance: usize, v: u8)
 {
     let old_check = check_at(s, check);
     let old = s[byte];
-    let Updated::Accepted(new_check) = crc::update(old_check, old, v, distance) else {
+    let Ok(new_check) = crc::update(old_check, old, v, distance) else {
         return;
     };
     s[byte] = v;

@@ -17,12 +17,13 @@ use native.Mathlib.Omega.{arith}
 use lib.Bits.{bit_xor, xor_lt, xor_shifted, xor_zero_r}
 use lib.Dec.{eqb, eqb→eq}
 use lib.ListN.{length, get_or, replicate, length-replicate}
+use Rattle.std.specs.Prelude.{Result}
 use Rattle.answers.proofs.Settled.{settled}
 use Rattle.ground.proofs.XorLaws.{xor_odd, xor_cancel_r}
 use Rattle.ground.proofs.TableLaws.{all_below_at}
+use Rattle.answers.specs.declared.Refusal.{Refusal}
 use Rattle.crc.specs.Check.{bit_in, bits_in, byte_in, reg_of, check_of}
 use Rattle.crc.specs.CheckUpdate.{share_of, farthest, updating, Mends}
-use Rattle.crc.specs.declared.Updated.{Updated}
 use Rattle.crc.proofs.UpdateLaws.{updating_mends}
 use Rattle.crc.proofs.CheckLaws.{bit_in_high, bit_in_low, bits_in-xor, reg_of_append, share_of_lt, reg_of_changed}
 
@@ -176,12 +177,12 @@ module _ (c old k : ℕ) (h : c < 65536) where
         is = check_of_span;
       }
 
-pub mends-settled : (c old new k : ℕ) (r s : Updated) → c < 65536 → Mends c old new k r → Mends c old new k s → r ≡ s
+pub mends-settled : (c old new k : ℕ) (r s : Result ℕ Refusal) → c < 65536 → Mends c old new k r → Mends c old new k s → r ≡ s
 mends-settled c old new k r s h p q =
     let x = span_of c old k h in
     settled (p x.pre x.post x.size x.is) (q x.pre x.post x.size x.is)
 
 pub mends_only :
-    (c old new k : ℕ) (r : Updated) → c < 65536 → k ≤ farthest → Mends c old new k r → r ≡ updating c old new k
+    (c old new k : ℕ) (r : Result ℕ Refusal) → c < 65536 → k ≤ farthest → Mends c old new k r → r ≡ updating c old new k
 mends_only c old new k r h near p =
     mends-settled c old new k r (updating c old new k) h p (updating_mends c old new k near)

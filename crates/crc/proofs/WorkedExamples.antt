@@ -5,10 +5,10 @@
 use mathlib.Core.List.{List, [], ◌∷◌, ◌++◌, map}
 use mathlib.Core.Path.{◌≡◌, refl}
 use Prim.Native.Nat.{ℕ}
+use Rattle.std.specs.Prelude.{Ok, Err}
 use Rattle.answers.specs.declared.Refusal.{Refusal}
 use Rattle.crc.specs.Check.{bit_in, bits_in, byte_in, reg_of, check_of}
 use Rattle.crc.specs.CheckUpdate.{share_of, updating}
-use Rattle.crc.specs.declared.Updated.TheVariants.{Accepted, Refused}
 
 abbrev text : List ℕ
 text = 0x31 ∷ 0x32 ∷ 0x33 ∷ 0x34 ∷ 0x35 ∷ 0x36 ∷ 0x37 ∷ 0x38 ∷ 0x39 ∷ []
@@ -28,6 +28,6 @@ check_of_worked = refl
 
 pub updating_worked :
     updating 0x1E6D 0x43 0x44 2 ∷ map (updating 0xFFFF 0x00 0x01) (125 ∷ 126 ∷ [])
-    ≡ Accepted 0xDCF1 ∷ Accepted 0x12D6 ∷ Refused Refusal.OutOfRange ∷ []
+    ≡ Ok 0xDCF1 ∷ Ok 0x12D6 ∷ Err Refusal.OutOfRange ∷ []
 unfolding bit_in bits_in byte_in reg_of share_of
 updating_worked = refl

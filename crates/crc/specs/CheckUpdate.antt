@@ -6,12 +6,10 @@
 --     Mends c old new k r        01's own words: whatever the span, if it has the check c and the byte `old` with k
 --                                bytes behind it, then r is the check of the same span with the byte `new` there
 -- That `updating` mends, and that nothing else does, are theorems: proofs/UpdateLaws, proofs/BackwardLaws.
-use Rattle.std.specs.Prelude.{cond, List, ◌∷◌, ◌++◌, ◌≡◌, ℕ, leb, length, replicate}
+use Rattle.std.specs.Prelude.{cond, List, ◌∷◌, ◌++◌, ◌≡◌, ℕ, leb, length, replicate, Result, Ok, Err}
 use Rattle.std.specs.Int.Bits.{bit_xor}
 use Rattle.answers.specs.declared.Refusal.{Refusal}
 use Rattle.crc.specs.Check.{reg_of, check_of}
-use Rattle.crc.specs.declared.Updated.{Updated}
-use Rattle.crc.specs.declared.Updated.TheVariants.{Accepted, Refused}
 
 unfoldable pub share_of : ℕ → ℕ → ℕ
 share_of x k = reg_of 0 (x ∷ replicate k 0)
@@ -22,10 +20,10 @@ updated_check c old new k = bit_xor c (share_of (bit_xor old new) k)
 abbrev pub farthest : ℕ
 farthest = 125
 
-abbrev pub updating : ℕ → ℕ → ℕ → ℕ → Updated
-updating c old new k = cond (leb k farthest) (Accepted (updated_check c old new k)) (Refused Refusal.OutOfRange)
+abbrev pub updating : ℕ → ℕ → ℕ → ℕ → Result ℕ Refusal
+updating c old new k = cond (leb k farthest) (Ok (updated_check c old new k)) (Err Refusal.OutOfRange)
 
-abbrev pub Mends : ℕ → ℕ → ℕ → ℕ → Updated → Type 0
+abbrev pub Mends : ℕ → ℕ → ℕ → ℕ → Result ℕ Refusal → Type 0
 Mends c old new k r =
     (pre post : List ℕ) → length post ≡ k → check_of (pre ++ (old ∷ post)) ≡ c
-    → r ≡ Accepted (check_of (pre ++ (new ∷ post)))
+    → r ≡ Ok (check_of (pre ++ (new ∷ post)))

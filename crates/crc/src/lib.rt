@@ -16,13 +16,6 @@ mod words; // words.rt: sixteen bytes at once
 // At most so many bytes stand between a changed byte and the end of its span.
 const FARTHEST: usize = 125;
 
-// What the update of a check answers: the new check, or that the distance is too large.
-#[derive(Clone, Copy)]
-pub enum Updated {
-    Accepted(u16),
-    Refused(Refusal),
-}
-
 // The register after the bytes of `s`. The bytes that fill no group of sixteen are the first ones, since zeros could
 // stand before them. A span of sixteen bytes, as nearly all of format A are, is one group.
 fn register(s: &[u8]) -> u16
@@ -49,12 +42,12 @@ pub fn check(s: &[u8]) -> u16
 
 // The check of a span after one of its bytes was changed from `old` to `new`. `distance` counts the bytes between it
 // and the end of the span; no other byte of the span is looked at.
-pub fn update(old_check: u16, old: u8, new: u8, distance: usize) -> Updated
+pub fn update(old_check: u16, old: u8, new: u8, distance: usize) -> Result<u16, Refusal>
     ensures settles { result ≡ updating old_check old new distance }
     ensures mends { distance ≤ farthest → Mends old_check old new distance result }
 {
     if FARTHEST < distance {
-        return Updated::Refused(Refusal::OutOfRange);
+        return Err(Refusal::OutOfRange);
     }
-    Updated::Accepted(old_check ^ share(old ^ new, distance))
+    Ok(old_check ^ share(old ^ new, distance))
 }

@@ -10,9 +10,9 @@ use Prim.Native.Nat.{ℕ, ◌+◌, ◌*◌, ◌≤◌}
 use native.Mathlib.Omega.{arith}
 use lib.ListN.{length, take, drop, get_or, length-drop}
 use lib.Seq.{take-take}
+use Rattle.std.specs.Prelude.{None}
 use Rattle.ground.specs.Bytes.{Bytes}
 use Rattle.ground.proofs.ByteLaws.{bytes_take, bytes_drop}
-use Rattle.blocks.specs.declared.Checks.TheVariants.{Right}
 use Rattle.blocks.specs.Spans.{first_wrong, size_of}
 use Rattle.blocks.proofs.SpanLaws.{first_wrong-cons}
 use Rattle.blocks.proofs.CutLaws.{widest}
@@ -47,7 +47,7 @@ module _
     (lacks : (old new : List ℕ) → kind old new → P (pattern old new) → ⊥) where
   some_wrong :
       (b : ℕ) (ks s t : List ℕ) → Bytes s → Bytes t → size_of ks ≤ length s → size_of ks ≤ length t
-      → 8 * (widest ks + 2) ≤ limit → first_wrong b ks s ≡ Right → first_wrong b ks t ≡ Right → InSome kind ks s t → ⊥
+      → 8 * (widest ks + 2) ≤ limit → first_wrong b ks s ≡ None → first_wrong b ks t ≡ None → InSome kind ks s t → ⊥
   unfolding size_of widest
   some_wrong b [] s t bs bt fs ft small rs rt none = none
   some_wrong b (k ∷ ks) s t bs bt fs ft small rs rt some =
@@ -72,7 +72,7 @@ module _
       let u = alone at in
       let v = alone (rw same.0 at frame) in
       let right = judge_of-accepted f (take z s) (judge_of_frame u) in
-      let right' = subst (λ (n : ℕ). first_wrong 1 (spans_of f n) (take z t) ≡ Right) same.1
+      let right' = subst (λ (n : ℕ). first_wrong 1 (spans_of f n) (take z t) ≡ None) same.1
       (judge_of-accepted f (take z t) (judge_of_frame v)).right in
       some_wrong 1 (spans_of f (length c)) (take z s) (take z t) (bytes_take z s bs) (bytes_take z t bt)
       (whole_room right) (subst (λ (n : ℕ). size_of (spans_of f n) ≤ length (take z t)) same.1

@@ -13,19 +13,18 @@ use borrow.Author.Tests.{eqb-true, eqb-false}
 use lib.Dec.{eqb}
 use lib.ListN.{length, take, drop, get_or, length-append, length-drop, take-append-drop, get_or-append}
 use lib.Seq.{take_at, get_or-take, length-take-le}
+use Rattle.std.specs.Prelude.{Ok, Some, None}
 use Rattle.ground.specs.Apart.{apart}
 use Rattle.ground.specs.Bytes.{Bytes}
 use Rattle.ground.proofs.ApartLaws.{apart_self, apart-zero}
 use Rattle.ground.proofs.ByteLaws.{bytes_take, bytes_drop}
 use Rattle.ground.proofs.CaseLaws.{by_test}
-use Rattle.blocks.specs.declared.Checks.TheVariants.{Right, Wrong}
 use Rattle.blocks.specs.Spans.{sealed, block_ok, first_wrong, size_of}
 use Rattle.blocks.proofs.SealLaws.{sealed-take, block_ok_sealed}
 use Rattle.blocks.proofs.SpanLaws.{first_wrong-cons}
 use Rattle.blocks.proofs.CutLaws.{widest}
 use Rattle.frame.specs.declared.Format.{Format}
-use Rattle.frame.specs.declared.Frame.{Frame}
-use Rattle.frame.specs.Formats.{spans_of, frame_size, size_for}
+use Rattle.frame.specs.Formats.{spans_of, frame_size, size_for, sizes}
 use Rattle.frame.specs.Frames.{FrameAt}
 use Rattle.frame.specs.Judging.{by_checks}
 use Rattle.frame.proofs.JudgeLaws.{judge_of_whole}
@@ -52,7 +51,7 @@ same_right k s t ok fits same =
 -- the length byte says the same size of what came
 first_kept :
     {f : Format} {s : List ℕ} {z : ℕ} {c : List ℕ} (new rest : List ℕ) → FrameAt f s z c → length new ≡ z
-    → LengthStays (take z s) new → size_for f (get_or (new ++ rest) 0 0) ≡ Frame.Accepted z (length c)
+    → LengthStays (take z s) new → size_for f (get_or (new ++ rest) 0 0) ≡ Ok (sizes z (length c))
 first_kept {f} {s} {z} new rest at size stays =
     ap (size_for f)
     (get_or-append new rest 0 0 (omega (arith, frame_some at)) ∙ stays ∙ get_or-take z s 0 0 (frame_some at))
@@ -111,8 +110,8 @@ module _ {limit : ℕ} {Q : List ℕ → Type 0} (tells : Telling limit Q Zeros)
 
   named_walk :
       (b : ℕ) (ks s t : List ℕ) → Bytes s → Bytes t → size_of ks ≤ length s → size_of ks ≤ length t
-      → 8 * (widest ks + 2) ≤ limit → first_wrong b ks s ≡ Right → Q (between (size_of ks) s t)
-      → (Zeros (between (size_of ks) s t) → ⊥) → first_wrong b ks t ≡ Wrong (first_damaged b ks s t)
+      → 8 * (widest ks + 2) ≤ limit → first_wrong b ks s ≡ None → Q (between (size_of ks) s t)
+      → (Zeros (between (size_of ks) s t) → ⊥) → first_wrong b ks t ≡ Some (first_damaged b ks s t)
   unfolding size_of widest first_wrong first_damaged
   named_walk b [] s t bs bt fs ft small rs q some = absurd (some (subst Zeros (sym pattern-nil) (λ p. refl)))
   named_walk b (k ∷ ks) s t bs bt fs ft small rs q some =
@@ -134,7 +133,7 @@ module _
   -- the frame in s was judged; its length byte came as it was sent
   named_frame :
       (s t : List ℕ) (z n : ℕ) → WholeFrame f s z n → Bytes s → Bytes t → z ≤ length t → kind (take z s) (take z t)
-      → first_wrong 1 (spans_of f n) t ≡ Wrong (first_damaged 1 (spans_of f n) s t)
+      → first_wrong 1 (spans_of f n) t ≡ Some (first_damaged 1 (spans_of f n) s t)
   unfolding frame_size
   named_frame s t z n whole bs bt there damage =
       let size : z ≡ size_of (spans_of f n) = whole.size in
@@ -153,7 +152,7 @@ module _
       let size : length new ≡ z = (damaged (take z s) new damage).count ∙ length-take-le z s whole.fits in
       let there : z ≤ length t = omega (arith, length-append new rest) in
       let harm = subst (kind (take z s)) (sym (take_at new rest z size)) damage in
-      let sized = first_kept new rest at size stays ∙ ap (Frame.Accepted z) handed.sized in
+      let sized = first_kept new rest at size stays ∙ ap (λ (m : ℕ). Ok (sizes z m)) handed.sized in
       reading_of_refused f t e
       (judge_of_whole f t (omega (arith, frame_some at)) sized there
       ∙ ap (by_checks z n) (named_frame s t z n whole bs bt there harm))

@@ -14,9 +14,9 @@ use Prim.Native.Nat.{ℕ, ◌+◌, ◌-◌, ◌*◌, ◌≤◌, min}
 use native.Mathlib.Omega.{arith}
 use lib.ListN.{length, take, drop, get_or, length-append}
 use lib.Seq.{take_at, get_or-take, length-take-le}
+use Rattle.std.specs.Prelude.{None}
 use Rattle.ground.specs.Bytes.{Bytes}
 use Rattle.ground.proofs.ByteLaws.{bytes_take}
-use Rattle.blocks.specs.declared.Checks.TheVariants.{Right}
 use Rattle.blocks.specs.Spans.{block_ok, first_wrong, size_of, spans}
 use Rattle.blocks.proofs.SpanLaws.{first_wrong-cons}
 use Rattle.blocks.proofs.CutLaws.{widest, widest_spans, spans_turn}
@@ -53,7 +53,7 @@ module _
   same_spans {P = P} tells narrow stays q =
       let size : z ≡ size_of (spans_of f (length c)) = (whole at).size in
       let same = same_size stays in
-      let right = subst (λ (n : ℕ). first_wrong 1 (spans_of f n) t ≡ Right) same.1 (whole there).right in
+      let right = subst (λ (n : ℕ). first_wrong 1 (spans_of f n) t ≡ None) same.1 (whole there).right in
       let fits = subst (λ (n : ℕ). size_of (spans_of f n) ≤ length t) same.1 (whole_room (whole there)) in
       let told = walk tells 1 (spans_of f (length c)) s t bs bt (whole_room (whole at)) fits narrow (whole at).right
       right (rw size at q) in

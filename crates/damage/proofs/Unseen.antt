@@ -16,7 +16,9 @@ use lib.Dec.{eqb, leb, ltb, T, leb→le, ltb→lt}
 use lib.Ieee.Fits.{and_l, and_r}
 use lib.ListN.{length, take, get_or}
 use lib.Seq.{take_all}
+use Rattle.std.specs.Prelude.{Result, Ok}
 use Rattle.answers.specs.Outcome.{Outcome}
+use Rattle.answers.specs.declared.Refusal.{Refusal}
 use Rattle.ground.specs.Apart.{apart}
 use Rattle.ground.specs.Bytes.{Bytes}
 use Rattle.ground.proofs.CaseLaws.{by_test}
@@ -26,7 +28,7 @@ use Rattle.blocks.specs.Spans.{size_of, cut, block_ok, first_wrong, payload}
 use Rattle.frame.specs.declared.Format.{Format}
 use Rattle.frame.specs.declared.Format.TheVariants.{A, B}
 use Rattle.frame.specs.declared.Frame.{Frame}
-use Rattle.frame.specs.Formats.{frame_size}
+use Rattle.frame.specs.Formats.{frame_size, sizes}
 use Rattle.frame.specs.Frames.{FrameAt, content_in}
 use Rattle.frame.specs.Judging.{by_checks, by_length, judge_of}
 use Rattle.frame.specs.Reads.{reading_of}
@@ -81,7 +83,7 @@ are_bytes w = all_below (λ j. ltb (get_or w j 0) 256) (length w)
 
 module _
     (f : Format) (kind : List ℕ → List ℕ → Type 0) (old new : List ℕ) (bo : T (are_bytes old)) (bn : T (are_bytes new))
-    {n y m : ℕ} (sent : judge_of f old ≡ Frame.Accepted (length old) n) (came : judge_of f new ≡ Frame.Accepted y m)
+    {n y m : ℕ} (sent : judge_of f old ≡ Ok (sizes (length old) n)) (came : judge_of f new ≡ Ok (sizes y m))
     (damage : kind old new) (differs : content_in f m new ≡ content_in f n old → ⊥) where
   unseen : Unseen f kind old new
   unseen =
@@ -217,8 +219,8 @@ pub unseen_not_always :
 unseen_not_always f kind old new u always =
     let d = u.content in
     let whole : take (length old) old ≡ old = take_all (length old) old (omega arith) in
-    let accepted : (reading_of f old d).answer ≡ Frame.Accepted (length old) (length d) =
-    ap (λ (o : Outcome Frame). o.answer) (read_accepts u.sent d (omega arith)) in
+    let accepted : (reading_of f old d).answer ≡ Ok (sizes (length old) (length d)) =
+    ap (λ (o : Outcome (Result Frame Refusal)). o.answer) (read_accepts u.sent d (omega arith)) in
     let seen = always old d (length old) (length d) u.bytes.0 accepted new u.rest u.bytes.1
     (subst (λ (x : List ℕ). kind x new) (sym whole) u.damage) in
     seen.no_frame u.size u.other u.came

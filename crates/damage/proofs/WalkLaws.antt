@@ -10,9 +10,9 @@ use Prim.Native.Nat.{ℕ, ◌+◌, ◌*◌, ◌≤◌}
 use native.Mathlib.Omega.{arith}
 use lib.ListN.{length, take, drop, length-drop}
 use lib.Seq.{take-add, length-take-le}
+use Rattle.std.specs.Prelude.{None}
 use Rattle.ground.specs.Bytes.{Bytes}
 use Rattle.ground.proofs.ByteLaws.{bytes_drop}
-use Rattle.blocks.specs.declared.Checks.TheVariants.{Right}
 use Rattle.blocks.specs.Spans.{block_ok, first_wrong, size_of}
 use Rattle.blocks.proofs.SpanLaws.{first_wrong-cons}
 use Rattle.blocks.proofs.CutLaws.{widest}
@@ -59,7 +59,7 @@ module _ {limit : ℕ} {Q P : List ℕ → Type 0} (tells : Telling limit Q P) w
 
   pub walk :
       (b : ℕ) (ks s t : List ℕ) → Bytes s → Bytes t → size_of ks ≤ length s → size_of ks ≤ length t
-      → 8 * (widest ks + 2) ≤ limit → first_wrong b ks s ≡ Right → first_wrong b ks t ≡ Right
+      → 8 * (widest ks + 2) ≤ limit → first_wrong b ks s ≡ None → first_wrong b ks t ≡ None
       → Q (between (size_of ks) s t) → P (between (size_of ks) s t)
   unfolding size_of widest
   walk b [] s t bs bt fs ft small rs rt q = subst P (sym pattern-nil) tells.none

@@ -15,6 +15,7 @@ use borrow.Author.Tests.{lt-ltb, le-ltb, ltb-false}
 use lib.Dec.{ltb}
 use lib.ListN.{get_or, length, take, drop, set, length-set}
 use lib.Seq.{set-get_or, take_at, drop_at, set_out}
+use Rattle.std.specs.Prelude.{Ok, Err}
 use Rattle.answers.specs.declared.Refusal.{Refusal}
 use Rattle.answers.proofs.OutcomeLaws.{answer-cond, memory-cond}
 use Rattle.blocks.specs.Spans.{payload}
@@ -22,8 +23,7 @@ use Rattle.blocks.specs.Places.{mended}
 use Rattle.blocks.proofs.PlaceLaws.{placed-lt}
 use Rattle.blocks.proofs.MendLaws.{Touches, mended_framed, mended_touches}
 use Rattle.frame.specs.declared.Format.{Format}
-use Rattle.frame.specs.declared.Frame.{Frame}
-use Rattle.frame.specs.Formats.{form_of, spans_of, frame_size}
+use Rattle.frame.specs.Formats.{form_of, spans_of, frame_size, sizes}
 use Rattle.frame.specs.Frames.{frame_of, content_in, FrameAt}
 use Rattle.frame.specs.Judging.{judge_of}
 use Rattle.frame.specs.Changes.{set_in, changing_of, place_of, check_place_of}
@@ -53,32 +53,32 @@ module _ {f : Format} {s : List ℕ} {z n : ℕ} (w : WholeFrame f s z n) (k b :
 
 module _ (f : Format) (s : List ℕ) (k b : ℕ) where
   pub changing_of_refused :
-      {r : Refusal} → judge_of f s ≡ Frame.Refused r
-      → changing_of f s k b ≡ record { answer = Frame.Refused r; memory = s }
+      {r : Refusal} → judge_of f s ≡ Err r
+      → changing_of f s k b ≡ record { answer = Err r; memory = s }
   unfolding changing_of set_in
   changing_of_refused e = rw e
 
-  module _ {z n : ℕ} (e : judge_of f s ≡ Frame.Accepted z n) where
+  module _ {z n : ℕ} (e : judge_of f s ≡ Ok (sizes z n)) where
     pub changing_of_bad_place :
-        n ≤ k → changing_of f s k b ≡ record { answer = Frame.Refused Refusal.BadPlace; memory = s }
+        n ≤ k → changing_of f s k b ≡ record { answer = Err Refusal.BadPlace; memory = s }
     unfolding changing_of set_in
     changing_of_bad_place h = rw (e, le-ltb k n h)
 
     pub changing_of-accepted :
         k < n
         → changing_of f s k b
-        ≡ record { answer = Frame.Accepted z n; memory = frame_of f (set (content_in f n s) k b) ++ drop z s }
+        ≡ record { answer = Ok (sizes z n); memory = frame_of f (set (content_in f n s) k b) ++ drop z s }
     unfolding changing_of set_in
     changing_of-accepted h = rw (e, lt-ltb k n h)
 
     pub change_mends :
         k < n
         → changing_of f s k b
-        ≡ record { answer = Frame.Accepted z n; memory = mended s (place_of f n k) (check_place_of f n k) b }
+        ≡ record { answer = Ok (sizes z n); memory = mended s (place_of f n k) (check_place_of f n k) b }
     change_mends h = rw (mended_frame_of (judge_of-accepted f s e) k b h) (changing_of-accepted h)
 
 pub change_touches :
-    (f : Format) (s : List ℕ) (k b z n : ℕ) → judge_of f s ≡ Frame.Accepted z n → k < n
+    (f : Format) (s : List ℕ) (k b z n : ℕ) → judge_of f s ≡ Ok (sizes z n) → k < n
     → Touches s (changing_of f s k b).memory (place_of f n k) (check_place_of f n k) b
 change_touches f s k b z n e h = rw (change_mends f s k b e h) (mended_touched (judge_of-accepted f s e) k b h)
 
@@ -86,7 +86,7 @@ change_touches f s k b z n e h = rw (change_mends f s k b e h) (mended_touched (
 module _ {f : Format} {s : List ℕ} {z : ℕ} {c : List ℕ} (at : FrameAt f s z c) (k b : ℕ) where
   pub change_answer :
       (changing_of f s k b).answer
-      ≡ cond (ltb k (length c)) (Frame.Accepted z (length c)) (Frame.Refused Refusal.BadPlace)
+      ≡ cond (ltb k (length c)) (Ok (sizes z (length c))) (Err Refusal.BadPlace)
   unfolding changing_of set_in
   change_answer = rw (judge_of_frame at) (answer-cond (ltb k (length c)) _ _)
 
@@ -119,8 +119,8 @@ module _ {f : Format} {s : List ℕ} {z : ℕ} {c : List ℕ} (at : FrameAt f s 
 -- setting the value that is there is accepted and changes nothing
 pub change_same :
     {f : Format} {s : List ℕ} {z : ℕ} {c : List ℕ} → FrameAt f s z c → (k : ℕ) → k < length c
-    → changing_of f s k (get_or c k 0) ≡ record { answer = Frame.Accepted z (length c); memory = s }
+    → changing_of f s k (get_or c k 0) ≡ record { answer = Ok (sizes z (length c)); memory = s }
 change_same {f} {s} {z} {c} at k there =
     changing_of-accepted f s k (get_or c k 0) (judge_of_frame at) there
-    ∙ ap (λ (m : List ℕ). record { answer = Frame.Accepted z (length c); memory = m })
+    ∙ ap (λ (m : List ℕ). record { answer = Ok (sizes z (length c)); memory = m })
     (rw (content_in_frame at, set-get_or c k 0) (sym (frame_split at)))

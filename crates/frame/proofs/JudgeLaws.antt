@@ -10,24 +10,25 @@ use Prim.Native.Nat.{ℕ, ◌≤◌, ◌<◌}
 use native.Mathlib.Nat.{suc-ne-zero, not-suc-le-zero}
 use borrow.Author.Tests.{lt-ltb, le-ltb}
 use lib.ListN.{length, get_or}
+use Rattle.std.specs.Prelude.{Result, Ok, Err}
 use Rattle.answers.specs.declared.Refusal.{Refusal}
 use Rattle.blocks.specs.Spans.{first_wrong}
 use Rattle.frame.specs.declared.Format.{Format}
 use Rattle.frame.specs.declared.Frame.{Frame}
-use Rattle.frame.specs.Formats.{form_of, spans_of, frame_size, size_for}
+use Rattle.frame.specs.Formats.{form_of, spans_of, frame_size, size_for, sizes}
 use Rattle.frame.specs.Judging.{by_checks, by_length, judge_of}
 use Rattle.frame.proofs.FormatLaws.{true_within, length_byte-content_length, within-content_length}
 
 module _ {z n : ℕ} where
   pub cond_refused_then :
-      (t : Bool) (r : Refusal) (j : Frame) → cond t (Frame.Refused r) j ≡ Frame.Accepted z n
-      → (t ≡ false) × (j ≡ Frame.Accepted z n)
+      (t : Bool) (r : Refusal) (j : Result Frame Refusal) → cond t (Err r) j ≡ Ok (sizes z n)
+      → (t ≡ false) × (j ≡ Ok (sizes z n))
   cond_refused_then true r j h = (cc, cc)
   cond_refused_then false r j h = (refl, h)
 
   pub cond_refused_else :
-      (t : Bool) (j : Frame) (r : Refusal) → cond t j (Frame.Refused r) ≡ Frame.Accepted z n
-      → (t ≡ true) × (j ≡ Frame.Accepted z n)
+      (t : Bool) (j : Result Frame Refusal) (r : Refusal) → cond t j (Err r) ≡ Ok (sizes z n)
+      → (t ≡ true) × (j ≡ Ok (sizes z n))
   cond_refused_else true j r h = (refl, h)
   cond_refused_else false j r h = (cc, cc)
 
@@ -44,14 +45,14 @@ allowed_sized f l h =
     let bounds = true_within _ _ _ (within-content_length f l h) in
     record { byte = length_byte-content_length f l h; size = refl; low = bounds.0; high = bounds.1 }
 
-pub size_for_accepted : (f : Format) (l : ℕ) {z n : ℕ} → size_for f l ≡ Frame.Accepted z n → Sized f l z n
+pub size_for_accepted : (f : Format) (l : ℕ) {z n : ℕ} → size_for f l ≡ Ok (sizes z n) → Sized f l z n
 size_for_accepted f l {z} {n} h =
     let p = cond_refused_else ((form_of f).allowed l) _ _ h in
     let content : (form_of f).content_length l ≡ n = cc in
     let size : frame_size f ((form_of f).content_length l) ≡ z = cc in
     rw (size, content) at (allowed_sized f l p.0)
 
-pub judge_of-nil : (f : Format) (s : List ℕ) → length s ≡ 0 → judge_of f s ≡ Frame.Refused Refusal.Short
+pub judge_of-nil : (f : Format) (s : List ℕ) → length s ≡ 0 → judge_of f s ≡ Err Refusal.Short
 unfolding judge_of
 judge_of-nil f [] h = refl
 judge_of-nil f (l ∷ s) h = absurd (suc-ne-zero (length s) h)
@@ -62,12 +63,12 @@ judge_of-cons f [] h = absurd (not-suc-le-zero h)
 judge_of-cons f (l ∷ s) h = refl
 
 module _ (f : Format) (s : List ℕ) (some : 0 < length s) where
-  pub judge_of_refused : {r : Refusal} → size_for f (get_or s 0 0) ≡ Frame.Refused r → judge_of f s ≡ Frame.Refused r
+  pub judge_of_refused : {r : Refusal} → size_for f (get_or s 0 0) ≡ Err r → judge_of f s ≡ Err r
   unfolding by_length
   judge_of_refused e = judge_of-cons f s some ∙ ap (by_length f s) e
 
-  module _ {z n : ℕ} (e : size_for f (get_or s 0 0) ≡ Frame.Accepted z n) where
-    pub judge_of_short : length s < z → judge_of f s ≡ Frame.Refused Refusal.Short
+  module _ {z n : ℕ} (e : size_for f (get_or s 0 0) ≡ Ok (sizes z n)) where
+    pub judge_of_short : length s < z → judge_of f s ≡ Err Refusal.Short
     unfolding by_length
     judge_of_short h = judge_of-cons f s some ∙ ap (by_length f s) e ∙ rw (lt-ltb (length s) z h)
 

@@ -13,11 +13,11 @@ use borrow.Author.Tests.{eqb-true, eqb-false}
 use lib.Dec.{ltb, eqb}
 use lib.ListN.{length, drop, get_or, set, length-set, take-append-drop}
 use lib.Seq.{get_or-set_same, get_or-set_other}
+use Rattle.std.specs.Prelude.{Result, Ok, Err}
 use Rattle.answers.specs.declared.Refusal.{Refusal}
-use Rattle.answers.specs.declared.Written.{Written}
 use Rattle.answers.specs.Outcome.{Outcome}
+use Rattle.frame.specs.Formats.{sizes}
 use Rattle.frame.specs.declared.Format.{Format}
-use Rattle.frame.specs.declared.Frame.{Frame}
 use Rattle.frame.specs.Frames.{content_in, FrameAt}
 use Rattle.frame.specs.Judging.{judge_of}
 use Rattle.frame.specs.Writes.{writing_of}
@@ -45,7 +45,7 @@ changes_behind {f = f} {s = s} {z = z} {c = c} (e ∷ es) at =
 
 pub changes_write :
     (f : Format) (es : List Edit) (s : List ℕ) (z : ℕ) (c : List ℕ) → FrameAt f s z c
-    → ◌≡◌ {A = Outcome Written} (record { answer = Written.Accepted z; memory = changing f es s })
+    → ◌≡◌ {A = Outcome (Result ℕ Refusal)} (record { answer = Ok z; memory = changing f es s })
     (writing_of f (edited es c) s)
 changes_write f es s z c at =
     let room : z ≤ length s = (judge_of-accepted f s (judge_of_frame at)).fits in
@@ -53,8 +53,8 @@ changes_write f es s z c at =
     ∙ rw (← changes_behind es at, take-append-drop z (changing f es s)))
 
 pub accepted_changes :
-    (f : Format) (es : List Edit) (s : List ℕ) (z n : ℕ) → judge_of f s ≡ Frame.Accepted z n
-    → ◌≡◌ {A = Outcome Written} (record { answer = Written.Accepted z; memory = changing f es s })
+    (f : Format) (es : List Edit) (s : List ℕ) (z n : ℕ) → judge_of f s ≡ Ok (sizes z n)
+    → ◌≡◌ {A = Outcome (Result ℕ Refusal)} (record { answer = Ok z; memory = changing f es s })
     (writing_of f (edited es (content_in f n s)) s)
 accepted_changes f es s z n h = changes_write f es s z (content_in f n s) (whole_frame (judge_of-accepted f s h))
 
@@ -62,7 +62,7 @@ pub changes_answer :
     (f : Format) (es : List Edit) (s : List ℕ) (z : ℕ) (c : List ℕ) → FrameAt f s z c
     → answers_of f es s
     ≡ map
-    (λ (e : Edit). cond (ltb e.place (length c)) (Frame.Accepted z (length c)) (Frame.Refused Refusal.BadPlace)) es
+    (λ (e : Edit). cond (ltb e.place (length c)) (Ok (sizes z (length c))) (Err Refusal.BadPlace)) es
 unfolding answers_of
 changes_answer f [] s z c at = refl
 changes_answer f (e ∷ es) s z c at =

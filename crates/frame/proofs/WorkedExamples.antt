@@ -6,12 +6,13 @@
 use mathlib.Core.List.{List, [], ◌∷◌, map}
 use mathlib.Core.Path.{◌≡◌, refl}
 use Prim.Native.Nat.{ℕ}
+use Rattle.std.specs.Prelude.{Result, Ok, Err}
+use Rattle.answers.specs.declared.Refusal.{Refusal}
 use Rattle.crc.specs.Check.{bit_in, bits_in, byte_in, reg_of, check_of}
 use Rattle.blocks.specs.Spans.{sealed, framed, size_of, cut}
 use Rattle.frame.specs.declared.Format.{Format}
 use Rattle.frame.specs.declared.Format.TheVariants.{A, B}
 use Rattle.frame.specs.declared.Frame.{Frame}
-use Rattle.frame.specs.declared.Frame.TheVariants.{Accepted, Refused}
 use Rattle.frame.specs.Formats.{form_of, frame_size, size_for}
 use Rattle.frame.specs.Frames.{frame_of}
 
@@ -26,9 +27,9 @@ unfolding frame_size size_of cut
 sizes_worked = refl
 
 -- the content length that an allowed length byte tells, nothing where it is not allowed
-abbrev length_in : Frame → List ℕ
-length_in (Accepted size n) = n ∷ []
-length_in (Refused r) = []
+abbrev length_in : Result Frame Refusal → List ℕ
+length_in (Ok a) = a.n ∷ []
+length_in (Err r) = []
 
 pub lengths_A :
     map (λ l. length_in (size_for A l)) (0 ∷ 9 ∷ 10 ∷ 255 ∷ 256 ∷ []) ≡ [] ∷ [] ∷ (10 ∷ []) ∷ (255 ∷ []) ∷ [] ∷ []

@@ -10,7 +10,7 @@
 --     last_at es k x           the byte of the last change at place k, or x if there is none
 -- A change is measured by writing: that only three bytes of s differ, and how the new check follows from the old one,
 -- are theorems (proofs/ChangeLaws), and so is what a sequence of changes leaves (proofs/SequenceLaws).
-use Rattle.std.specs.Prelude.{cond, List, [], ◌∷◌, ◌++◌, ℕ, ◌+◌, ltb, eqb, drop, set}
+use Rattle.std.specs.Prelude.{cond, List, [], ◌∷◌, ◌++◌, ℕ, ◌+◌, ltb, eqb, drop, set, Result, Ok, Err}
 use Rattle.answers.specs.Outcome.{Outcome, leaving}
 use Rattle.blocks.specs.Places.{place_in, check_in}
 use Rattle.answers.specs.declared.Refusal.{Refusal}
@@ -20,14 +20,14 @@ use Rattle.frame.specs.Formats.{spans_of}
 use Rattle.frame.specs.Frames.{frame_of, content_in}
 use Rattle.frame.specs.Judging.{judge_of}
 
-unfoldable pub set_in : Format → List ℕ → ℕ → ℕ → Frame → Outcome Frame
-set_in f s k b (Frame.Accepted z n) =
-    cond (ltb k n)
-    (record { answer = Frame.Accepted z n; memory = frame_of f (set (content_in f n s) k b) ++ drop z s })
-    (leaving (Frame.Refused Refusal.BadPlace) s)
-set_in f s k b (Frame.Refused r) = leaving (Frame.Refused r) s
+unfoldable pub set_in : Format → List ℕ → ℕ → ℕ → Result Frame Refusal → Outcome (Result Frame Refusal)
+set_in f s k b (Ok a) =
+    cond (ltb k a.n)
+    (leaving (Ok a) (frame_of f (set (content_in f a.n s) k b) ++ drop a.size s))
+    (leaving (Err Refusal.BadPlace) s)
+set_in f s k b (Err r) = leaving (Err r) s
 
-unfoldable pub changing_of : Format → List ℕ → ℕ → ℕ → Outcome Frame
+unfoldable pub changing_of : Format → List ℕ → ℕ → ℕ → Outcome (Result Frame Refusal)
 changing_of f s k b = set_in f s k b (judge_of f s)
 
 -- L is byte 0 of what the spans hold, so content byte k is byte k + 1
@@ -45,7 +45,7 @@ unfoldable pub changing : Format → List Edit → List ℕ → List ℕ
 changing f [] s = s
 changing f (e ∷ es) s = changing f es (changing_of f s e.place e.byte).memory
 
-unfoldable pub answers_of : Format → List Edit → List ℕ → List Frame
+unfoldable pub answers_of : Format → List Edit → List ℕ → List (Result Frame Refusal)
 answers_of f [] s = []
 answers_of f (e ∷ es) s =
     (changing_of f s e.place e.byte).answer ∷ answers_of f es (changing_of f s e.place e.byte).memory

@@ -4,10 +4,11 @@
 --     form_of f         the one that f names
 --     spans_of f n      the lengths of the spans that L and n bytes of content are cut into, each with its own check
 --     frame_size f n    bytes of the whole frame: L, content and checks
+--     sizes z n         a frame of z bytes whose content has n
 --     size_for f l      by the length byte: the frame's size and its content's length, or BadLength
 -- Everything else in this crate is said once over f. Content of fewer than 10 bytes has no body (house), and
 -- L 128 and 129 of format B would be an empty last block (house; 12.4's own two ranges of size leave them out too).
-use Rattle.std.specs.Prelude.{Bool, cond, ◌&&◌, ◌||◌, List, ℕ, ◌+◌, ◌-◌, leb}
+use Rattle.std.specs.Prelude.{Bool, cond, ◌&&◌, ◌||◌, List, ℕ, ◌+◌, ◌-◌, leb, Result, Ok, Err}
 use Rattle.blocks.specs.Spans.{spans, size_of}
 use Rattle.answers.specs.declared.Refusal.{Refusal}
 use Rattle.frame.specs.declared.Format.{Format}
@@ -65,8 +66,11 @@ spans_of f n = spans (form_of f).first (form_of f).later (n + 1)
 unfoldable pub frame_size : Format → ℕ → ℕ
 frame_size f n = size_of (spans_of f n)
 
-abbrev pub size_for : Format → ℕ → Frame
+abbrev pub sizes : ℕ → ℕ → Frame
+sizes z n = record { size = z; n = n }
+
+abbrev pub size_for : Format → ℕ → Result Frame Refusal
 size_for f l =
     cond ((form_of f).allowed l)
-    (Frame.Accepted (frame_size f ((form_of f).content_length l)) ((form_of f).content_length l))
-    (Frame.Refused Refusal.BadLength)
+    (Ok (sizes (frame_size f ((form_of f).content_length l)) ((form_of f).content_length l)))
+    (Err Refusal.BadLength)

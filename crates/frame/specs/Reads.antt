@@ -3,7 +3,7 @@
 --                             content in the first n bytes of d, whose other bytes stay. A refusal leaves d as it was
 --     Handed f s d z n m c    what an accepted reading hands over, said without the reader: s begins with the frame
 --                             of c, which has z bytes; d has room for c's n bytes; m is c with what d held behind it
-use Rattle.std.specs.Prelude.{cond, List, ◌++◌, ◌≡◌, ℕ, ◌≤◌, ltb, length, drop}
+use Rattle.std.specs.Prelude.{cond, List, ◌++◌, ◌≡◌, ℕ, ◌≤◌, ltb, length, drop, Result, Ok, Err}
 use Rattle.answers.specs.Outcome.{Outcome, leaving}
 use Rattle.answers.specs.declared.Refusal.{Refusal}
 use Rattle.frame.specs.declared.Format.{Format}
@@ -11,14 +11,14 @@ use Rattle.frame.specs.declared.Frame.{Frame}
 use Rattle.frame.specs.Frames.{content_in, FrameAt}
 use Rattle.frame.specs.Judging.{judge_of}
 
-unfoldable pub taken_out : Format → List ℕ → List ℕ → Frame → Outcome Frame
-taken_out f s d (Frame.Accepted z n) =
-    cond (ltb (length d) n)
-    (leaving (Frame.Refused Refusal.NoRoom) d)
-    (record { answer = Frame.Accepted z n; memory = content_in f n s ++ drop n d })
-taken_out f s d (Frame.Refused r) = leaving (Frame.Refused r) d
+unfoldable pub taken_out : Format → List ℕ → List ℕ → Result Frame Refusal → Outcome (Result Frame Refusal)
+taken_out f s d (Ok a) =
+    cond (ltb (length d) a.n)
+    (leaving (Err Refusal.NoRoom) d)
+    (leaving (Ok a) (content_in f a.n s ++ drop a.n d))
+taken_out f s d (Err r) = leaving (Err r) d
 
-unfoldable pub reading_of : Format → List ℕ → List ℕ → Outcome Frame
+unfoldable pub reading_of : Format → List ℕ → List ℕ → Outcome (Result Frame Refusal)
 reading_of f s d = taken_out f s d (judge_of f s)
 
 pub record Handed (f : Format) (s d : List ℕ) (z n : ℕ) (m c : List ℕ) : Type 0 where

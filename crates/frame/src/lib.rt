@@ -4,28 +4,27 @@
 #![tactic(auto)]
 
 ghost use Rattle.std.specs.Prelude.{◌≡◌, ◌≤◌};
-ghost use Rattle.answers.specs.Outcome.{Outcome};
+ghost use Rattle.answers.specs.Outcome.{leaving};
 ghost use Rattle.frame.specs.Formats.{form_of, frame_size, size_for};
 ghost use Rattle.frame.specs.Judging.{judge_of};
 ghost use Rattle.frame.specs.Reads.{reading_of};
 ghost use Rattle.frame.specs.Writes.{writing_of};
 ghost use Rattle.frame.specs.Changes.{changing_of};
 
-use answers::{Refusal, Written};
-use blocks::Checks;
+use answers::Refusal;
 
 // The two frame formats.
-#[derive(Clone, Copy)]
+#[derive(Clone, Copy, Debug, PartialEq, Eq)]
 pub enum Format {
     A,
     B,
 }
 
-// What a length byte or a buffer says of a frame: its size and that of its content, or why there is none.
-#[derive(Clone, Copy)]
-pub enum Frame {
-    Accepted { size: usize, n: usize },
-    Refused(Refusal),
+// What a length byte or a buffer says of a frame: its size and that of its content.
+#[derive(Clone, Copy, Debug, PartialEq, Eq)]
+pub struct Frame {
+    pub size: usize,
+    pub n: usize,
 }
 
 // Format A: L counts no check; L and nine bytes have the first check, every 16 bytes after them one more.
@@ -58,15 +57,15 @@ impl FormatA {
         n + 3 + 2 * ((n + 6) / 16)
     }
 
-    pub fn frame_size(l: u8) -> Frame
+    pub fn frame_size(l: u8) -> Result<Frame, Refusal>
         ensures { result ≡ size_for Format.A l }
     {
         let n = l as usize;
         if n < Self::SHORTEST {
-            return Frame::Refused(Refusal::BadLength);
+            return Err(Refusal::BadLength);
         }
         let size = Self::size(n);
-        Frame::Accepted { size, n }
+        Ok(Frame { size, n })
     }
 }
 
@@ -102,23 +101,23 @@ impl FormatB {
         if n < Self::FIRST { n + 3 } else { n + 5 }
     }
 
-    pub fn frame_size(l: u8) -> Frame
+    pub fn frame_size(l: u8) -> Result<Frame, Refusal>
         ensures { result ≡ size_for Format.B l }
     {
         let l = l as usize;
         let size = l + 1;
         if l < Self::SHORTEST + 2 {
-            return Frame::Refused(Refusal::BadLength);
+            return Err(Refusal::BadLength);
         }
         if l < Self::FIRST + 2 {
             let n = l - 2;
-            return Frame::Accepted { size, n };
+            return Ok(Frame { size, n });
         }
         if l < Self::FIRST + 4 {
-            return Frame::Refused(Refusal::BadLength);
+            return Err(Refusal::BadLength);
         }
         let n = l - 4;
-        Frame::Accepted { size, n }
+        Ok(Frame { size, n })
     }
 }
 
@@ -182,7 +181,7 @@ impl Format {
     }
 
     // The size of the frame that begins with the length byte l, and of its content.
-    pub fn frame_size(self, l: u8) -> Frame
+    pub fn frame_size(self, l: u8) -> Result<Frame, Refusal>
         ensures { result ≡ size_for self l }
     {
         match self {
@@ -193,76 +192,61 @@ impl Format {
 }
 
 // Does s begin with a frame? s may be longer.
-pub fn judge(f: Format, s: &[u8]) -> Frame
+pub fn judge(f: Format, s: &[u8]) -> Result<Frame, Refusal>
     ensures { result ≡ judge_of f s.now }
 {
-    if s.len() == 0 {
-        return Frame::Refused(Refusal::Short);
+    if s.is_empty() {
+        return Err(Refusal::Short);
     }
-    match f.frame_size(s[0]) {
-        Frame::Refused(r) => Frame::Refused(r),
-        Frame::Accepted { size, n } => {
-            if s.len() < size {
-                return Frame::Refused(Refusal::Short);
-            }
-            match blocks::first_wrong(s, f.first(), f.later(), n + 1) {
-                Checks::Wrong(block) => Frame::Refused(Refusal::WrongCheck(block)),
-                Checks::Right => Frame::Accepted { size, n },
-            }
-        }
+    let frame = f.frame_size(s[0])?;
+    if s.len() < frame.size {
+        return Err(Refusal::Short);
+    }
+    match blocks::first_wrong(s, f.first(), f.later(), frame.n + 1) {
+        Some(block) => Err(Refusal::WrongCheck(block)),
+        None => Ok(frame),
     }
 }
 
 // Reads the frame that s begins with: its content stands in the first n bytes of out then, the others stay.
-pub fn read(f: Format, s: &[u8], out: &mut [u8]) -> Frame
-    ensures { ◌≡◌ {A = Outcome Frame} (record { answer = result; memory = out.new })
-        (reading_of f s.now out.old) }
+pub fn read(f: Format, s: &[u8], out: &mut [u8]) -> Result<Frame, Refusal>
+    ensures { leaving result out.new ≡ reading_of f s.now out.old }
 {
-    match judge(f, s) {
-        Frame::Refused(r) => Frame::Refused(r),
-        Frame::Accepted { size, n } => {
-            if out.len() < n {
-                return Frame::Refused(Refusal::NoRoom);
-            }
-            blocks::take_out(s, f.first(), f.later(), n, out);
-            Frame::Accepted { size, n }
-        }
+    let frame = judge(f, s)?;
+    if out.len() < frame.n {
+        return Err(Refusal::NoRoom);
     }
+    blocks::take_out(s, f.first(), f.later(), frame.n, out);
+    Ok(frame)
 }
 
 // Writes the frame of the content from the first byte of out on; the bytes after it stay.
-pub fn write(f: Format, content: &[u8], out: &mut [u8]) -> Written
-    ensures { ◌≡◌ {A = Outcome Written} (record { answer = result; memory = out.new })
-        (writing_of f content.now out.old) }
+pub fn write(f: Format, content: &[u8], out: &mut [u8]) -> Result<usize, Refusal>
+    ensures { leaving result out.new ≡ writing_of f content.now out.old }
 {
     let n = content.len();
     if n < f.shortest() {
-        return Written::Refused(Refusal::BadContent);
+        return Err(Refusal::BadContent);
     }
     if f.longest() < n {
-        return Written::Refused(Refusal::BadContent);
+        return Err(Refusal::BadContent);
     }
     let size = f.size(n);
     if out.len() < size {
-        return Written::Refused(Refusal::NoRoom);
+        return Err(Refusal::NoRoom);
     }
     blocks::put_all(f.length_byte(n), content, f.first(), f.later(), out);
-    Written::Accepted(size)
+    Ok(size)
 }
 
 // Sets one content byte of the frame that s begins with; its check is mended, all other bytes stay.
-pub fn change(f: Format, s: &mut [u8], place: usize, byte: u8) -> Frame
-    ensures { ◌≡◌ {A = Outcome Frame} (record { answer = result; memory = s.new })
-        (changing_of f s.old place byte) }
+pub fn change(f: Format, s: &mut [u8], place: usize, byte: u8) -> Result<Frame, Refusal>
+    ensures { leaving result s.new ≡ changing_of f s.old place byte }
 {
-    match judge(f, s) {
-        Frame::Refused(r) => Frame::Refused(r),
-        Frame::Accepted { size, n } => {
-            if n <= place {
-                return Frame::Refused(Refusal::BadPlace);
-            }
-            blocks::set_byte(s, f.first(), f.later(), n + 1, place + 1, byte);
-            Frame::Accepted { size, n }
-        }
+    let frame = judge(f, s)?;
+    if frame.n <= place {
+        return Err(Refusal::BadPlace);
     }
+    blocks::set_byte(s, f.first(), f.later(), frame.n + 1, place + 1, byte);
+    Ok(frame)
 }

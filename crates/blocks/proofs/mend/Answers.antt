@@ -5,23 +5,23 @@ use Prim.Native.Nat.{ℕ, ◌-◌}
 use native.Mathlib.Omega.{arith}
 use borrow.Author.Tests.{le-leb}
 use lib.ListN.{length-set}
+use Rattle.std.specs.Prelude.{Ok, Err}
 use Rattle.answers.specs.declared.Refusal.{Refusal}
-use Rattle.crc.specs.declared.Updated.{Updated}
 use Rattle.blocks.specs.Places.{updated_at, mended}
 use Rattle.blocks.proofs.mend.Goals.{After-update}
 use Rattle.blocks.proofs.mend.Goals as goal
 
-accepted-refused : {x : ℕ} {r : Refusal} → Updated.Accepted x ≡ Updated.Refused r → ⊥
+accepted-refused : {x : ℕ} {r : Refusal} → Ok x ≡ Err r → ⊥
 accepted-refused h = let one : ◌≡◌ {A = ℕ} 0 1 = cc in omega arith
 
-accepted-injective : {x y : ℕ} → Updated.Accepted x ≡ Updated.Accepted y → x ≡ y
+accepted-injective : {x y : ℕ} → Ok x ≡ Ok y → x ≡ y
 accepted-injective h = cc
 
 -- the update is accepted, with the check that the definition says
 update-accepted :
     (c : After-update)
     → let a = c.args in
-    c.update.result ≡ Updated.Accepted (updated_at a.s.now a.byte a.check a.v)
+    c.update.result ≡ Ok (updated_at a.s.now a.byte a.check a.v)
 unfolding updated_at
 update-accepted c =
     let a = c.args in

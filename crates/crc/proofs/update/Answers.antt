@@ -1,28 +1,9 @@
--- `crc::update` meets its contract: the test of the distance is the definition's, and the share is `crc::share`'s.
--- Assumes nothing.
-use mathlib.Core.Path.{◌≡◌, ap}
-use Prim.Native.Nat.{ℕ}
-use borrow.Author.Tests.{le-leb, lt-leb}
-use native.Mathlib.Omega.{arith}
-use lib.Bits.{bit_xor}
-use Rattle.crc.specs.declared.Updated.{Updated}
-use Rattle.crc.specs.declared.Updated.TheVariants.{Accepted, Refused}
-use Rattle.crc.specs.CheckUpdate.{updating}
-use Rattle.answers.specs.declared.Refusal.{Refusal}
-use Rattle.crc.proofs.UpdateLaws.{updating_promised}
+-- `crc::update` meets its contract: what the definition answers mends the check. Assumes nothing.
+use borrow.Author.Tests.{le-leb}
+use Rattle.crc.proofs.UpdateLaws.{updating_mends}
 use Rattle.crc.proofs.update.Goals as goal
 
-pub returns-then-distance-gt-FARTHEST : goal.returns-then-distance-gt-FARTHEST
-returns-then-distance-gt-FARTHEST c =
+pub returns-clause-mends : goal.returns-clause-mends
+returns-clause-mends c near =
     let a = c.args in
-    let e : Refused Refusal.OutOfRange ≡ updating a.old_check a.old a.new a.distance =
-    rw (lt-leb a.distance 125 (omega arith)) in
-    record { settles = e; mends = (updating_promised a.old_check a.old a.new a.distance e).1 }
-
-pub returns : goal.returns
-returns c =
-    let a = c.args in
-    let e : Accepted (bit_xor a.old_check c.share.result) ≡ updating a.old_check a.old a.new a.distance =
-    rw (le-leb a.distance 125 (omega arith))
-    (ap {B = Updated} (λ (v : ℕ). Accepted (bit_xor a.old_check v)) c.share.ensures) in
-    record { settles = e; mends = (updating_promised a.old_check a.old a.new a.distance e).1 }
+    rw (le-leb a.distance 125 near, ← c.share.ensures) at (updating_mends a.old_check a.old a.new a.distance near)

@@ -3,7 +3,8 @@
 use mathlib.Core.Path.{◌≡◌, sym, ◌∙◌}
 use Prim.Native.Nat.{◌≤◌}
 use native.Mathlib.Omega.{arith}
-use Rattle.frame.specs.declared.Frame.{Frame}
+use Rattle.std.specs.Prelude.{Ok}
+use Rattle.frame.specs.Formats.{sizes}
 use Rattle.frame.specs.Judging.{judge_of}
 use Rattle.frame.proofs.FormatLaws.{one-lt_first, first-le, zero-lt_later, later-le, longest-le}
 use Rattle.frame.proofs.AcceptLaws.{judge_of-accepted, whole_room}
@@ -15,7 +16,7 @@ use Rattle.frame.proofs.change.Goals as goal
 judged :
     (c : In-Accepted)
     → let a = c.args in
-    judge_of a.f a.s.now ≡ Frame.Accepted c.in-Accepted.size c.in-Accepted.n
+    judge_of a.f a.s.now ≡ Ok (sizes c.in-Accepted.size c.in-Accepted.n)
 judged c = sym c.judge.ensures ∙ c.in-Accepted.is
 
 -- the content's length fits a byte

@@ -5,9 +5,9 @@ use Prim.Native.Nat.{◌≤◌, ◌<◌}
 use native.Mathlib.Nat.{pos_of_ne-zero}
 use native.Mathlib.Omega.{arith}
 use lib.ListN.{length, get_or}
+use Rattle.std.specs.Prelude.{Ok}
 use Rattle.blocks.specs.Spans.{first_wrong}
-use Rattle.frame.specs.declared.Frame.{Frame}
-use Rattle.frame.specs.Formats.{spans_of, frame_size, size_for}
+use Rattle.frame.specs.Formats.{spans_of, frame_size, size_for, sizes}
 use Rattle.frame.specs.Judging.{by_checks, judge_of}
 use Rattle.frame.proofs.FormatLaws.{one-lt_first, zero-lt_later, longest-le}
 use Rattle.frame.proofs.JudgeLaws.{size_for_accepted, judge_of-nil, judge_of_refused, judge_of_short, judge_of_whole}
@@ -22,7 +22,7 @@ some c = pos_of_ne-zero c.if-s-eq0.false
 sized :
     (c : In-Accepted)
     → let a = c.args in
-    size_for a.f (get_or a.s.now 0 0) ≡ Frame.Accepted c.in-Accepted.size c.in-Accepted.n
+    size_for a.f (get_or a.s.now 0 0) ≡ Ok (sizes c.in-Accepted.size c.in-Accepted.n)
 sized c = sym c.frame_size.ensures ∙ c.in-Accepted.is
 
 -- where all bytes are there, the checks decide

@@ -2,7 +2,8 @@
 -- hands the content over. Assumes nothing.
 use mathlib.Core.Path.{◌≡◌, sym, ◌∙◌}
 use native.Mathlib.Omega.{arith}
-use Rattle.frame.specs.declared.Frame.{Frame}
+use Rattle.std.specs.Prelude.{Ok}
+use Rattle.frame.specs.Formats.{sizes}
 use Rattle.frame.specs.Frames.{content_in}
 use Rattle.frame.specs.Judging.{judge_of}
 use Rattle.frame.proofs.FormatLaws.{one-lt_first, zero-lt_later}
@@ -15,7 +16,7 @@ use Rattle.frame.proofs.read.Goals as goal
 judged :
     (c : In-Accepted)
     → let a = c.args in
-    judge_of a.f a.s.now ≡ Frame.Accepted c.in-Accepted.size c.in-Accepted.n
+    judge_of a.f a.s.now ≡ Ok (sizes c.in-Accepted.size c.in-Accepted.n)
 judged c = sym c.judge.ensures ∙ c.in-Accepted.is
 
 pub returns-then-out-n : goal.returns-then-out-n
