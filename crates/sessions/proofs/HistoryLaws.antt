@@ -3,6 +3,7 @@
 --     running            in a running collector
 --     restored_afresh    after a restore into an empty store
 -- Assumes nothing.
+use Rattle.std.specs.Prelude.{Result, Ok, Err}
 use mathlib.Core.Bool.{true, false}
 use mathlib.Core.List.{List, [], ◌∷◌, ◌++◌}
 use mathlib.Core.Path.{◌≡◌, refl, ap, ◌∙◌}
@@ -11,9 +12,8 @@ use native.Mathlib.Omega.{arith}
 use Rattle.answers.specs.declared.Refusal.{Refusal}
 use Rattle.ground.specs.Bytes.{Bytes}
 use Rattle.ground.proofs.CaseLaws.{by_test, zero_not_one}
-use Rattle.sessions.specs.declared.Lookup.{Lookup}
 use Rattle.modes.specs.Tables.{mode_of, format_of}
-use Rattle.sessions.specs.Meters.{Store, Result, Refuse, Keep, meter_of, holds}
+use Rattle.sessions.specs.Meters.{Store, meter_of, holds}
 use Rattle.sessions.specs.StoreFile.{memory_of}
 use Rattle.sessions.specs.StoreCalls.{issuing, looking_up, found}
 use Rattle.sessions.specs.Valid.{Valid}
@@ -32,28 +32,28 @@ use Rattle.sessions.proofs.ValidLaws.{added_valid, hearing_valid, issued_valid, 
 
 -- the memory s holds the store st
 record Held (s : List ℕ) (st : Store) : Type 0 where
-  is : memory_of s ≡ Keep st
+  is : memory_of s ≡ Ok st
   valid : Valid st
 
-after_all_refused : (s : List ℕ) (why : Refusal) → memory_of s ≡ Refuse why → (cs : List Call) → after_all s cs ≡ s
+after_all_refused : (s : List ℕ) (why : Refusal) → memory_of s ≡ Err why → (cs : List Call) → after_all s cs ≡ s
 unfolding after_all
 after_all_refused s why e [] = refl
 after_all_refused s why e (c ∷ cs) = rw (after_refused s why e c) (after_all_refused s why e cs)
 
 refused_none :
-    (s : List ℕ) (why : Refusal) → memory_of s ≡ Refuse why → (cs : List Call) (a n : ℕ) → IssuedAfter s cs a n → ⊥
+    (s : List ℕ) (why : Refusal) → memory_of s ≡ Err why → (cs : List Call) (a n : ℕ) → IssuedAfter s cs a n → ⊥
 refused_none s why e cs a n h =
     let same = ap (λ t. (issuing a t).answer) (after_all_refused s why e cs) in
     let no = issuing_refused s why e a in
     zero_not_one (cc)
 
 by_result :
-    {P : Type 0} (r : Result) → ((why : Refusal) → r ≡ Refuse why → P) → ((st : Store) → r ≡ Keep st → P) → P
-by_result (Refuse why) f g = f why refl
-by_result (Keep st) f g = g st refl
+    {P : Type 0} (r : Result Store Refusal) → ((why : Refusal) → r ≡ Err why → P) → ((st : Store) → r ≡ Ok st → P) → P
+by_result (Err why) f g = f why refl
+by_result (Ok st) f g = g st refl
 
-module _ (s : List ℕ) (st : Store) (is : memory_of s ≡ Keep st) (a : ℕ) where
-  looking_up_held : holds a st.meters ≡ true → looking_up a s ≡ Lookup.Accepted (meter_of a st.meters)
+module _ (s : List ℕ) (st : Store) (is : memory_of s ≡ Ok st) (a : ℕ) where
+  looking_up_held : holds a st.meters ≡ true → looking_up a s ≡ Ok (meter_of a st.meters)
   looking_up_held h = ap (found a) is ∙ rw h
 
   stranger_unsure : holds a st.meters ≡ false → unsure a st ≡ true
@@ -74,7 +74,7 @@ append-nil_both : (k l : List ℕ) → k ++ l ≡ [] → (k ≡ []) × (l ≡ []
 append-nil_both [] l h = (refl, h)
 append-nil_both (x ∷ k) l h = absurd (zero_not_one (cc))
 
-pub on_store_valid : (c : Call) (st after : Store) → InRange c → Valid st → on_store c st ≡ Keep after → Valid after
+pub on_store_valid : (c : Call) (st after : Store) → InRange c → Valid st → on_store c st ≡ Ok after → Valid after
 on_store_valid (Add a mode format) st after range v h = added_valid st after v a range mode format h
 on_store_valid (AddBy a k j) st after range v h =
     added_valid st after v a range (mode_of k) (format_of j) (added_by_added a k j st h)
@@ -86,10 +86,10 @@ on_store_valid (Restore file) st after range v h =
 on_store_valid (Allow n) st after range v h = allowing_valid st after v n range h
 
 left_held :
-    (s : List ℕ) (st : Store) → memory_of s ≡ Keep st → (r : Result) → Valid (held_after st r)
-    → memory_of (left s r) ≡ Keep (held_after st r)
-left_held s st is (Refuse why) v = is
-left_held s st is (Keep after) v = memory_of_leaves s v (memory_of_room s is)
+    (s : List ℕ) (st : Store) → memory_of s ≡ Ok st → (r : Result Store Refusal) → Valid (held_after st r)
+    → memory_of (left s r) ≡ Ok (held_after st r)
+left_held s st is (Err why) v = is
+left_held s st is (Ok after) v = memory_of_leaves s v (memory_of_room s is)
 
 after_held : {s : List ℕ} {st : Store} → Held s st → (c : Call) → InRange c → Held (after s c) (store_after c st)
 after_held {s} {st} h c range =
@@ -124,7 +124,7 @@ module _ (a n : ℕ) where
       after_all_silent cs (after s c) (store_after c st) (after_held h c range.0) range.1
       (heard_by_unsure s st h.is a c p.0 u) i p.1
 
-held : (s : List ℕ) (st : Store) → Bytes s → memory_of s ≡ Keep st → Held s st
+held : (s : List ℕ) (st : Store) → Bytes s → memory_of s ≡ Ok st → Held s st
 held s st bytes e = record { is = e; valid = ((memory_of_exactly s st bytes).0 e).valid }
 
 pub running : Running

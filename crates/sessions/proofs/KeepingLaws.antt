@@ -7,6 +7,7 @@
 --     meter_of-hearing, hearing_told     what is held of a meter that was heard: a number not below the one heard
 --     meter_of_issued, issued_above      what is held of a meter that a number was issued for: a larger one than before
 -- Assumes nothing.
+use Rattle.std.specs.Prelude.{Ok}
 use mathlib.Core.Bool.{Bool, true}
 use mathlib.Core.Logic.{◌≢◌}
 use mathlib.Core.Path.{◌≡◌, ap, ◌∙◌}
@@ -15,7 +16,7 @@ use native.Mathlib.Omega.{arith}
 use Rattle.frame.specs.declared.Format.{Format}
 use Rattle.modes.specs.declared.Mode.{Mode}
 use Rattle.sessions.specs.declared.Meter.{Meter}
-use Rattle.sessions.specs.Meters.{Store, Keep, meter_of}
+use Rattle.sessions.specs.Meters.{Store, meter_of}
 use Rattle.sessions.specs.Changes.{heard, next, with_meter, added, hearing, issued, allowing, restored_by}
 use Rattle.sessions.proofs.CallLaws.{added_has_room, restored_by_has_room, hearing_hears, issued_issues}
 use Rattle.sessions.proofs.PutLaws.{meter_of-address, meter_of_put, meter_of_put_other, meter_of_put_related}
@@ -44,7 +45,7 @@ module _ (b : ℕ) (st after : Store) where
       → unsure b (with_meter a m st) ≡ true
   with_meter_unsure a m here h = meter_of_put_related StillUnsure (λ x u. u) a b m st.meters here h
 
-  module _ (a : ℕ) (mode : Mode) (format : Format) (h : added a mode format st ≡ Keep after) where
+  module _ (a : ℕ) (mode : Mode) (format : Format) (h : added a mode format st ≡ Ok after) where
     pub added_last : last b st ≤ last b after
     added_last =
         rw (← (added_has_room st a mode format h).leaves)
@@ -55,7 +56,7 @@ module _ (b : ℕ) (st after : Store) where
         rw (← (added_has_room st a mode format h).leaves)
         (with_meter_unsure a _ (meter_of-address a st.meters) (λ v. v) u)
 
-  module _ (a n : ℕ) (h : hearing a n st ≡ Keep after) where
+  module _ (a n : ℕ) (h : hearing a n st ≡ Ok after) where
     pub hearing_last : last b st ≤ last b after
     hearing_last =
         rw (← (hearing_hears a n h).leaves) (with_meter_last a _ (meter_of-address a st.meters) (omega arith))
@@ -65,14 +66,14 @@ module _ (b : ℕ) (st after : Store) where
         rw (← (hearing_hears a n h).leaves)
         (ap (λ m. m.unsure) (meter_of_put_other a b _ (meter_of-address a st.meters) other st.meters) ∙ u)
 
-  module _ (n : ℕ) (h : hearing b n st ≡ Keep after) where
+  module _ (n : ℕ) (h : hearing b n st ≡ Ok after) where
     pub meter_of-hearing : meter_of b after.meters ≡ heard n (meter_of b st.meters)
     meter_of-hearing = rw (← (hearing_hears b n h).leaves) (meter_of_put b _ (meter_of-address b st.meters) st.meters)
 
     pub hearing_told : n ≤ last b after
     hearing_told = omega (arith, ap (λ (m : Meter). m.number) meter_of-hearing)
 
-  module _ (a : ℕ) (h : issued a st ≡ Keep after) where
+  module _ (a : ℕ) (h : issued a st ≡ Ok after) where
     pub issued_last : last b st ≤ last b after
     issued_last = rw (← (issued_issues a h).leaves) (with_meter_last a _ (meter_of-address a st.meters) (omega arith))
 
@@ -80,14 +81,14 @@ module _ (b : ℕ) (st after : Store) where
     issued_unsure u =
         rw (← (issued_issues a h).leaves) (with_meter_unsure a _ (meter_of-address a st.meters) (λ v. v) u)
 
-  module _ (h : issued b st ≡ Keep after) where
+  module _ (h : issued b st ≡ Ok after) where
     pub meter_of_issued : meter_of b after.meters ≡ next (meter_of b st.meters)
     meter_of_issued = rw (← (issued_issues b h).leaves) (meter_of_put b _ (meter_of-address b st.meters) st.meters)
 
     pub issued_above : last b st < last b after
     issued_above = omega (arith, ap (λ (m : Meter). m.number) meter_of_issued)
 
-  module _ (n : ℕ) (h : allowing n st ≡ Keep after) where
+  module _ (n : ℕ) (h : allowing n st ≡ Ok after) where
     allowing_meters : st.meters ≡ after.meters
     allowing_meters = cc
 
@@ -97,7 +98,7 @@ module _ (b : ℕ) (st after : Store) where
     pub allowing_unsure : unsure b st ≡ true → unsure b after ≡ true
     allowing_unsure u = rw (← allowing_meters) u
 
-  module _ (file : Store) (h : restored_by file st ≡ Keep after) where
+  module _ (file : Store) (h : restored_by file st ≡ Ok after) where
     pub restored_by_last : last b st ≤ last b after
     restored_by_last =
         rw (← (restored_by_has_room st file h).leaves)

@@ -5,6 +5,7 @@
 --     memory_of_bytes_of, memory_of_leaves    memory that begins with them holds the store; memory that a call left
 --     file_of-written, file_of-version_one    a file that was written is read as the same store
 -- Assumes nothing.
+use Rattle.std.specs.Prelude.{Ok}
 use mathlib.Core.List.{List, [], ◌∷◌, ◌++◌, append-nil}
 use mathlib.Core.Path.{◌≡◌, refl, sym}
 use Prim.Native.Nat.{ℕ, ◌+◌, ◌*◌, ◌≤◌}
@@ -17,7 +18,7 @@ use Rattle.ground.proofs.FrontLaws.{front_length}
 use Rattle.address.specs.Keys.{four_bytes}
 use Rattle.address.proofs.KeyLaws.{four_at-append, bytes-four_bytes}
 use Rattle.sessions.specs.declared.Meter.{Meter}
-use Rattle.sessions.specs.Meters.{Store, Keep}
+use Rattle.sessions.specs.Meters.{Store}
 use Rattle.sessions.specs.StoreFile.{meters_bytes, bytes_of, version_one, size_of, file_of, memory_size, memory_of}
 use Rattle.sessions.specs.StoreCalls.{leaves}
 use Rattle.sessions.specs.Valid.{Valid}
@@ -71,7 +72,7 @@ body_version_one ms =
 
 pub memory_of_bytes_of :
     {st : Store} (rest : List ℕ) → Valid st → memory_size ≤ length (bytes_of st ++ rest)
-    → memory_of (bytes_of st ++ rest) ≡ Keep st
+    → memory_of (bytes_of st ++ rest) ≡ Ok st
 memory_of_bytes_of {st} rest v room =
     let b = body_bytes_of st rest in
     let allowance = four_at-append [] [] st.allowance v.allows in
@@ -85,12 +86,12 @@ memory_of_bytes_of {st} rest v room =
     )
 
 pub memory_of_leaves :
-    {st : Store} (s : List ℕ) → Valid st → memory_size ≤ length s → memory_of (leaves st s) ≡ Keep st
+    {st : Store} (s : List ℕ) → Valid st → memory_size ≤ length s → memory_of (leaves st s) ≡ Ok st
 memory_of_leaves {st} s v room =
     let size = length_leaves st s (omega (arith, size_of_valid v)) in
     memory_of_bytes_of (drop (size_of st) s) v (omega (arith, size))
 
-pub file_of-written : {st : Store} → Valid st → file_of (bytes_of st) ≡ Keep st
+pub file_of-written : {st : Store} → Valid st → file_of (bytes_of st) ≡ Ok st
 file_of-written {st} v =
     let b = rw (append-nil (bytes_of st)) at (body_bytes_of st []) in
     let some = ne_eqb (length (bytes_of st)) 0 (λ e. omega arith) in
@@ -100,7 +101,7 @@ file_of-written {st} v =
 
 pub file_of-version_one :
     {ms : List Meter} → Valid (record { meters = ms; allowance = 16384 })
-    → file_of (version_one ms) ≡ Keep (record { meters = ms; allowance = 16384 })
+    → file_of (version_one ms) ≡ Ok (record { meters = ms; allowance = 16384 })
 file_of-version_one {ms} v =
     let b = body_version_one ms in
     let some = ne_eqb (length (version_one ms)) 0 (λ e. omega arith) in

@@ -4,6 +4,7 @@
 --     told_by_last       what is told of a meter b is not above the number held of it then
 --     heard_by_unsure    where nothing was heard from b it stays unsure
 -- Assumes nothing.
+use Rattle.std.specs.Prelude.{Result, Ok, Err}
 use mathlib.Core.Bool.{true, cond}
 use mathlib.Core.List.{List, [], ◌∷◌}
 use mathlib.Core.Path.{◌≡◌, refl, ap, sym, ◌∙◌}
@@ -12,10 +13,8 @@ use native.Mathlib.Omega.{arith}
 use borrow.Author.Tests.{eqb-true, eqb-false}
 use lib.Dec.{eqb}
 use Rattle.answers.specs.declared.Refusal.{Refusal}
-use Rattle.answers.specs.declared.Written.{Written}
 use Rattle.ground.proofs.CaseLaws.{by_test, zero_not_one}
-use Rattle.sessions.specs.declared.Value.{Value}
-use Rattle.sessions.specs.Meters.{Store, Result, Refuse, Keep}
+use Rattle.sessions.specs.Meters.{Store}
 use Rattle.sessions.specs.Changes.{hearing, issued}
 use Rattle.sessions.specs.StoreFile.{size_of, memory_of}
 use Rattle.sessions.specs.StoreCalls.{◌and_then◌, kept, issuing}
@@ -26,47 +25,47 @@ use Rattle.sessions.proofs.KeepingLaws.{last, unsure, hearing_told}
 use Rattle.sessions.proofs.StepLaws.{held_after, store_after, store_after_unsure}
 
 -- the number that a call tells that came to r
-abbrev if_kept : (Store → ℕ) → Result → List ℕ
-if_kept number (Refuse why) = []
-if_kept number (Keep st) = number st ∷ []
+abbrev if_kept : (Store → ℕ) → Result Store Refusal → List ℕ
+if_kept number (Err why) = []
+if_kept number (Ok st) = number st ∷ []
 
 hearing-if_kept :
-    (s : List ℕ) (n : ℕ) (r : Result)
-    → if_accepted n (kept Written.Refused (λ st. Written.Accepted (size_of st)) s r).answer ≡ if_kept (λ st. n) r
-hearing-if_kept s n (Refuse why) = refl
-hearing-if_kept s n (Keep st) = refl
+    (s : List ℕ) (n : ℕ) (r : Result Store Refusal)
+    → if_accepted n (kept Err (λ st. Ok (size_of st)) s r).answer ≡ if_kept (λ st. n) r
+hearing-if_kept s n (Err why) = refl
+hearing-if_kept s n (Ok st) = refl
 
 -- what a call that issues a number for the meter a answers if it came to r
-abbrev issue_answer : List ℕ → ℕ → Result → Value
-issue_answer s a r = (kept Value.Refused (λ st. Value.Accepted (last a st)) s r).answer
+abbrev issue_answer : List ℕ → ℕ → Result Store Refusal → Result ℕ Refusal
+issue_answer s a r = (kept Err (λ st. Ok (last a st)) s r).answer
 
-issuing-if_kept : (s : List ℕ) (a : ℕ) (r : Result) → if_issued (issue_answer s a r) ≡ if_kept (last a) r
-issuing-if_kept s a (Refuse why) = refl
-issuing-if_kept s a (Keep st) = refl
+issuing-if_kept : (s : List ℕ) (a : ℕ) (r : Result Store Refusal) → if_issued (issue_answer s a r) ≡ if_kept (last a) r
+issuing-if_kept s a (Err why) = refl
+issuing-if_kept s a (Ok st) = refl
 
 issued_number :
-    (s : List ℕ) (a n : ℕ) (r : Result) → issue_answer s a r ≡ Value.Accepted n
-    → (after : Store) × ((r ≡ Keep after) × (last a after ≡ n))
-issued_number s a n (Refuse why) h = absurd (zero_not_one (cc))
-issued_number s a n (Keep after) h = (after, (refl, cc))
+    (s : List ℕ) (a n : ℕ) (r : Result Store Refusal) → issue_answer s a r ≡ Ok n
+    → (after : Store) × ((r ≡ Ok after) × (last a after ≡ n))
+issued_number s a n (Err why) h = absurd (zero_not_one (cc))
+issued_number s a n (Ok after) h = (after, (refl, cc))
 
 pub issuing_refused :
-    (s : List ℕ) (why : Refusal) → memory_of s ≡ Refuse why → (a : ℕ) → (issuing a s).answer ≡ Value.Refused why
+    (s : List ℕ) (why : Refusal) → memory_of s ≡ Err why → (a : ℕ) → (issuing a s).answer ≡ Err why
 issuing_refused s why e a = ap (λ r. issue_answer s a (r and_then issued a)) e
 
-module _ (s : List ℕ) (st : Store) (is : memory_of s ≡ Keep st) where
+module _ (s : List ℕ) (st : Store) (is : memory_of s ≡ Ok st) where
   pub issuing_issued :
-      (a n : ℕ) → (issuing a s).answer ≡ Value.Accepted n
-      → (after : Store) × ((issued a st ≡ Keep after) × (last a after ≡ n))
+      (a n : ℕ) → (issuing a s).answer ≡ Ok n
+      → (after : Store) × ((issued a st ≡ Ok after) × (last a after ≡ n))
   issuing_issued a n h =
       issued_number s a n (issued a st) (ap (λ r. issue_answer s a (r and_then issued a)) (sym is) ∙ h)
 
   module _ (b : ℕ) where
     if_kept_last :
-        (number : Store → ℕ) (r : Result) → ((after : Store) → r ≡ Keep after → number after ≤ last b after)
+        (number : Store → ℕ) (r : Result Store Refusal) → ((after : Store) → r ≡ Ok after → number after ≤ last b after)
         → Above (suc (last b (held_after st r))) (if_kept number r)
-    if_kept_last number (Refuse why) f = above-nil _
-    if_kept_last number (Keep after) f = above-cons _ _ [] (omega (arith, f after refl)) (above-nil _)
+    if_kept_last number (Err why) f = above-nil _
+    if_kept_last number (Ok after) f = above-cons _ _ [] (omega (arith, f after refl)) (above-nil _)
 
     heard_by_hear : (a n : ℕ) → heard_by b s (Hear a n) ≡ cond (eqb a b) (if_kept (λ st. n) (hearing a n st)) []
     heard_by_hear a n =
@@ -103,9 +102,9 @@ module _ (s : List ℕ) (st : Store) (is : memory_of s ≡ Keep st) where
     told_by_last (Restore file) = above-nil _
     told_by_last (Allow n) = above-nil _
 
-    if_kept_none : (number : Store → ℕ) (r : Result) → if_kept number r ≡ [] → held_after st r ≡ st
-    if_kept_none number (Refuse why) h = refl
-    if_kept_none number (Keep after) h = absurd (zero_not_one (cc))
+    if_kept_none : (number : Store → ℕ) (r : Result Store Refusal) → if_kept number r ≡ [] → held_after st r ≡ st
+    if_kept_none number (Err why) h = refl
+    if_kept_none number (Ok after) h = absurd (zero_not_one (cc))
 
     hear_unsure :
         (a n : ℕ) → heard_by b s (Hear a n) ≡ [] → unsure b st ≡ true → unsure b (store_after (Hear a n) st) ≡ true

@@ -9,6 +9,7 @@
 --     issued_in_memory, told_in_memory   a history that begins with a new store in memory of zeros: the number issued
 --                                        at its end, and those that it must be above
 -- Assumes nothing.
+use Rattle.std.specs.Prelude.{Ok, Err}
 use mathlib.Core.Bool.{Bool, true, false}
 use mathlib.Core.List.{List, [], ◌∷◌, ◌++◌}
 use mathlib.Core.Path.{◌≡◌, refl}
@@ -18,8 +19,7 @@ use Rattle.answers.specs.declared.Refusal.TheVariants.{Unsure, NumbersUsedUp, St
 use Rattle.frame.specs.declared.Format.{Format}
 use Rattle.modes.specs.declared.Mode.{Mode}
 use Rattle.sessions.specs.declared.Meter.{Meter}
-use Rattle.sessions.specs.declared.Value.{Value}
-use Rattle.sessions.specs.Meters.{Store, Refuse, Keep, stranger, meter_of, holds, put}
+use Rattle.sessions.specs.Meters.{Store, stranger, meter_of, holds, put}
 use Rattle.sessions.specs.Changes.{empty_store, added, hearing, issued, restored, restored_by}
 use Rattle.sessions.specs.StoreFile.{meters_bytes, meters_in, all_right, unlike}
 use Rattle.sessions.specs.StoreCalls.{◌and_then◌, emptying, issuing}
@@ -31,31 +31,31 @@ meter a mode n unsure = record { address = a; mode = mode; format = Format.A; nu
 abbrev holding : List Meter → Store
 holding ms = record { meters = ms; allowance = 16384 }
 
-pub starts_unsure : added 7 Mode.T Format.A empty_store and_then issued 7 ≡ Refuse Unsure
+pub starts_unsure : added 7 Mode.T Format.A empty_store and_then issued 7 ≡ Err Unsure
 unfolding meter_of holds put
 starts_unsure = refl
 
 pub adding_held :
-    added 7 Mode.S Format.A (holding (meter 7 Mode.T 10 false ∷ [])) ≡ Keep (holding (meter 7 Mode.S 10 false ∷ []))
+    added 7 Mode.S Format.A (holding (meter 7 Mode.T 10 false ∷ [])) ≡ Ok (holding (meter 7 Mode.S 10 false ∷ []))
 unfolding meter_of put
 adding_held = refl
 
 pub hearing_larger :
-    hearing 7 11 (holding (meter 7 Mode.T 10 true ∷ [])) ≡ Keep (holding (meter 7 Mode.T 11 false ∷ []))
+    hearing 7 11 (holding (meter 7 Mode.T 10 true ∷ [])) ≡ Ok (holding (meter 7 Mode.T 11 false ∷ []))
 unfolding meter_of holds put
 hearing_larger = refl
 
 pub hearing_smaller :
-    hearing 7 9 (holding (meter 7 Mode.T 10 true ∷ [])) ≡ Keep (holding (meter 7 Mode.T 10 false ∷ []))
+    hearing 7 9 (holding (meter 7 Mode.T 10 true ∷ [])) ≡ Ok (holding (meter 7 Mode.T 10 false ∷ []))
 unfolding meter_of holds put
 hearing_smaller = refl
 
 pub last_number :
-    issued 7 (holding (meter 7 Mode.T 4294967294 false ∷ [])) ≡ Keep (holding (meter 7 Mode.T 4294967295 false ∷ []))
+    issued 7 (holding (meter 7 Mode.T 4294967294 false ∷ [])) ≡ Ok (holding (meter 7 Mode.T 4294967295 false ∷ []))
 unfolding meter_of holds put
 last_number = refl
 
-pub used_up : issued 7 (holding (meter 7 Mode.T 4294967295 false ∷ [])) ≡ Refuse NumbersUsedUp
+pub used_up : issued 7 (holding (meter 7 Mode.T 4294967295 false ∷ [])) ≡ Err NumbersUsedUp
 unfolding meter_of holds put
 used_up = refl
 
@@ -63,14 +63,14 @@ used_up = refl
 pub restored-running :
     restored_by (holding (meter 4 Mode.C 9 false ∷ meter 2 Mode.C 8 false ∷ meter 1 Mode.C 7 true ∷ []))
     (holding (meter 1 Mode.T 10 false ∷ meter 2 Mode.T 5 true ∷ meter 3 Mode.T 6 false ∷ []))
-    ≡ Keep
+    ≡ Ok
     (holding (meter 1 Mode.C 10 false ∷ meter 2 Mode.C 8 true ∷ meter 3 Mode.T 6 false ∷ meter 4 Mode.C 9 true ∷ []))
 unfolding meter_of put restored
 restored-running = refl
 
 pub restored_empty :
     restored_by (holding (meter 1 Mode.T 10 false ∷ meter 2 Mode.C 8 true ∷ [])) empty_store
-    ≡ Keep (holding (meter 1 Mode.T 10 true ∷ meter 2 Mode.C 8 true ∷ []))
+    ≡ Ok (holding (meter 1 Mode.T 10 true ∷ meter 2 Mode.C 8 true ∷ []))
 unfolding meter_of put restored
 restored_empty = refl
 
@@ -79,11 +79,11 @@ abbrev many : ℕ → List Meter
 many zero = []
 many (suc n) = stranger (suc n) ∷ many n
 
-pub sixty_four : added 0 Mode.R Format.A (holding (many 63)) ≡ Keep (holding (many 63 ++ (stranger 0 ∷ [])))
+pub sixty_four : added 0 Mode.R Format.A (holding (many 63)) ≡ Ok (holding (many 63 ++ (stranger 0 ∷ [])))
 unfolding meter_of put
 sixty_four = refl
 
-pub sixty_five : added 0 Mode.R Format.A (holding (many 64)) ≡ Refuse StoreFull
+pub sixty_five : added 0 Mode.R Format.A (holding (many 64)) ≡ Err StoreFull
 unfolding meter_of put
 sixty_five = refl
 
@@ -93,7 +93,7 @@ fresh = (emptying (replicate 1288 0)).memory
 abbrev history : List Call
 history = Hear 7 9 ∷ Issue 7 ∷ Add 7 Mode.T Format.A ∷ Issue 7 ∷ Hear 7 5 ∷ Issue 7 ∷ Allow 3 ∷ Hear 7 4 ∷ []
 
-pub issued_in_memory : (issuing 7 (after_all fresh history)).answer ≡ Value.Accepted 7
+pub issued_in_memory : (issuing 7 (after_all fresh history)).answer ≡ Ok 7
 unfolding meter_of holds put meters_bytes meters_in all_right unlike after_all
 issued_in_memory = refl
 

@@ -10,12 +10,13 @@
 --     restored ms fs             the meters ms after those of a file, fs, one by one
 --     restored_by file st         a restore: 22, else all of it
 -- Not here: a meter cannot be removed; one that was added again would start at 0 and turn its numbers back.
-use Rattle.std.specs.Prelude.{false, cond, not, List, [], ◌∷◌, ℕ, ◌+◌, max, leb, ltb, length}
+use Rattle.std.specs.Prelude.{false, cond, not, List, [], ◌∷◌, ℕ, ◌+◌, max, leb, ltb, length, Result, Ok, Err}
+use Rattle.answers.specs.declared.Refusal.{Refusal}
 use Rattle.answers.specs.declared.Refusal.TheVariants.{NotHeld, Unsure, NumbersUsedUp, StoreFull}
 use Rattle.frame.specs.declared.Format.{Format}
 use Rattle.modes.specs.declared.Mode.{Mode}
 use Rattle.sessions.specs.declared.Meter.{Meter}
-use Rattle.sessions.specs.Meters.{Store, Result, Refuse, Keep, meter_of, holds, put}
+use Rattle.sessions.specs.Meters.{Store, meter_of, holds, put}
 
 abbrev pub meter_limit : ℕ
 meter_limit = 64
@@ -26,8 +27,8 @@ last_number = 4294967295
 abbrev pub empty_store : Store
 empty_store = record { meters = []; allowance = 16384 }
 
-abbrev pub within : Store → Result
-within st = cond (ltb meter_limit (length st.meters)) (Refuse StoreFull) (Keep st)
+abbrev pub within : Store → Result Store Refusal
+within st = cond (ltb meter_limit (length st.meters)) (Err StoreFull) (Ok st)
 
 abbrev pub with_meter : ℕ → Meter → Store → Store
 with_meter a m st = record { meters = put a m st.meters; allowance = st.allowance }
@@ -58,27 +59,27 @@ merged own m =
       unsure = own.unsure;
     }
 
-abbrev pub added : ℕ → Mode → Format → Store → Result
+abbrev pub added : ℕ → Mode → Format → Store → Result Store Refusal
 added a mode format st = within (with_meter a (set_to mode format (meter_of a st.meters)) st)
 
-abbrev pub hearing : ℕ → ℕ → Store → Result
+abbrev pub hearing : ℕ → ℕ → Store → Result Store Refusal
 hearing a n st =
-    cond (not (holds a st.meters)) (Refuse NotHeld) (Keep (with_meter a (heard n (meter_of a st.meters)) st))
+    cond (not (holds a st.meters)) (Err NotHeld) (Ok (with_meter a (heard n (meter_of a st.meters)) st))
 
-abbrev pub issued : ℕ → Store → Result
+abbrev pub issued : ℕ → Store → Result Store Refusal
 issued a st =
     let m = meter_of a st.meters in
-    cond (not (holds a st.meters)) (Refuse NotHeld)
-    (cond m.unsure (Refuse Unsure)
-    (cond (leb last_number m.number) (Refuse NumbersUsedUp) (Keep (with_meter a (next m) st))))
+    cond (not (holds a st.meters)) (Err NotHeld)
+    (cond m.unsure (Err Unsure)
+    (cond (leb last_number m.number) (Err NumbersUsedUp) (Ok (with_meter a (next m) st))))
 
-abbrev pub allowing : ℕ → Store → Result
-allowing n st = Keep (record { meters = st.meters; allowance = n })
+abbrev pub allowing : ℕ → Store → Result Store Refusal
+allowing n st = Ok (record { meters = st.meters; allowance = n })
 
 unfoldable pub restored : List Meter → List Meter → List Meter
 restored ms [] = ms
 restored ms (m ∷ fs) = restored (put m.address (merged (meter_of m.address ms) m) ms) fs
 
-abbrev pub restored_by : Store → Store → Result
+abbrev pub restored_by : Store → Store → Result Store Refusal
 restored_by file st =
     within (record { meters = restored st.meters file.meters; allowance = file.allowance })

@@ -19,14 +19,12 @@
 --                       then each is above all heard and all issued since
 -- Not promised: what a store that was not saved, or that was restored from a copy, no longer knows
 -- (proofs/NotPromised).
-use Rattle.std.specs.Prelude.{cond, false, List, [], ◌∷◌, ◌++◌, ◌≡◌, ℕ, ◌<◌, eqb, length, get_or}
-use Rattle.answers.specs.declared.Written.{Written}
+use Rattle.std.specs.Prelude.{cond, false, List, [], ◌∷◌, ◌++◌, ◌≡◌, ℕ, ◌<◌, eqb, length, get_or, Result, Ok, Err}
+use Rattle.answers.specs.declared.Refusal.{Refusal}
 use Rattle.frame.specs.declared.Format.{Format}
 use Rattle.modes.specs.declared.Mode.{Mode}
 use Rattle.ground.specs.Bytes.{Bytes}
 use Rattle.sessions.specs.declared.Meter.{Meter}
-use Rattle.sessions.specs.declared.Value.{Value}
-use Rattle.sessions.specs.declared.Lookup.{Lookup}
 use Rattle.sessions.specs.StoreCalls.{adding, adding_by, hearing_in, issuing, restoring, setting_allowance, looking_up}
 
 pub data Call : Type 0 where
@@ -49,13 +47,13 @@ unfoldable pub after_all : List ℕ → List Call → List ℕ
 after_all s [] = s
 after_all s (c ∷ cs) = after_all (after s c) cs
 
-abbrev pub if_accepted : ℕ → Written → List ℕ
-if_accepted n (Written.Accepted size) = n ∷ []
-if_accepted n (Written.Refused why) = []
+abbrev pub if_accepted : ℕ → Result ℕ Refusal → List ℕ
+if_accepted n (Ok size) = n ∷ []
+if_accepted n (Err why) = []
 
-abbrev pub if_issued : Value → List ℕ
-if_issued (Value.Accepted n) = n ∷ []
-if_issued (Value.Refused why) = []
+abbrev pub if_issued : Result ℕ Refusal → List ℕ
+if_issued (Ok n) = n ∷ []
+if_issued (Err why) = []
 
 abbrev pub heard_by : ℕ → List ℕ → Call → List ℕ
 heard_by a s (Add b mode format) = []
@@ -96,14 +94,14 @@ abbrev pub Above : ℕ → List ℕ → Type 0
 Above n l = (i : ℕ) → i < length l → get_or l i 0 < n
 
 abbrev pub Sure : ℕ → List ℕ → Type 0
-Sure a s = (m : Meter) × ((looking_up a s ≡ Lookup.Accepted m) × (m.unsure ≡ false))
+Sure a s = (m : Meter) × ((looking_up a s ≡ Ok m) × (m.unsure ≡ false))
 
 abbrev pub NoneHeld : List ℕ → Type 0
-NoneHeld s = (a : ℕ) (m : Meter) → looking_up a s ≡ Lookup.Accepted m → ⊥
+NoneHeld s = (a : ℕ) (m : Meter) → looking_up a s ≡ Ok m → ⊥
 
 -- the number n is issued for the meter a after the calls cs
 abbrev pub IssuedAfter : List ℕ → List Call → ℕ → ℕ → Type 0
-IssuedAfter s cs a n = (issuing a (after_all s cs)).answer ≡ Value.Accepted n
+IssuedAfter s cs a n = (issuing a (after_all s cs)).answer ≡ Ok n
 
 pub record Running : Type 0 where
   pub above :
@@ -128,7 +126,7 @@ pub record Restored : Type 0 where
       Bytes file →
       InRanges cs →
       NoneHeld s →
-      (restoring file s).answer ≡ Written.Accepted size →
+      (restoring file s).answer ≡ Ok size →
       IssuedAfter (restoring file s).memory cs a n →
       (over (heard_by a) (restoring file s).memory cs ≡ [] → ⊥)
       × Above n (over (told_by a) (restoring file s).memory cs)

@@ -5,9 +5,8 @@
 --     meter_of a ms    what is held of the meter a among ms
 --     holds a ms      whether a is among them
 --     put a m ms      ms with m for the meter a: in its place, or behind the last one
---     Result          a refusal, or the store that is held after the call
+-- A call comes to `Result Store Refusal`: the store that is held after it, or why it was refused.
 use Rattle.std.specs.Prelude.{Bool, true, false, cond, ◌||◌, List, [], ◌∷◌, ℕ, eqb}
-use Rattle.answers.specs.declared.Refusal.{Refusal}
 use Rattle.frame.specs.declared.Format.{Format}
 use Rattle.modes.specs.declared.Mode.{Mode}
 use Rattle.sessions.specs.declared.Meter.{Meter}
@@ -30,7 +29,3 @@ holds a (m ∷ ms) = eqb m.address a || holds a ms
 unfoldable pub put : ℕ → Meter → List Meter → List Meter
 put a m [] = m ∷ []
 put a m (x ∷ ms) = cond (eqb x.address a) (m ∷ ms) (x ∷ put a m ms)
-
-pub data Result : Type 0 where
-  Refuse : Refusal → Result
-  Keep : Store → Result

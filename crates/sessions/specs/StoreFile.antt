@@ -20,12 +20,13 @@
 --     file_of s             reading a file: 17 if empty, 18, 17
 --     memory_size           bytes of memory that a store is kept in: as many as the largest store has
 --     memory_of s           the store that memory s holds at its start, in version 2: 17 if s has no byte, 18, 17
-use Rattle.std.specs.Prelude.{Bool, true, cond, not, ◌&&◌, List, [], ◌∷◌, ◌++◌, ℕ, zero, suc, ◌+◌, ◌*◌, eqb, leb, ltb, length, get_or, drop}
+use Rattle.std.specs.Prelude.{Bool, true, cond, not, ◌&&◌, List, [], ◌∷◌, ◌++◌, ℕ, zero, suc, ◌+◌, ◌*◌, eqb, leb, ltb, length, get_or, drop, Result, Ok, Err}
+use Rattle.answers.specs.declared.Refusal.{Refusal}
 use Rattle.answers.specs.declared.Refusal.TheVariants.{BadStore, UnknownVersion}
 use Rattle.modes.specs.Tables.{mode_number, mode_of, format_number, format_of}
 use Rattle.address.specs.Keys.{four_bytes, four_at, key_bytes, key_at}
 use Rattle.sessions.specs.declared.Meter.{Meter}
-use Rattle.sessions.specs.Meters.{Store, Result, Refuse, Keep, holds}
+use Rattle.sessions.specs.Meters.{Store, holds}
 use Rattle.sessions.specs.Changes.{meter_limit}
 
 abbrev pub mark_of : Bool → ℕ
@@ -92,21 +93,21 @@ store_in k allowance s = record { meters = meters_in (get_or s (k + 1) 0) (drop 
 abbrev pub whole : ℕ → List ℕ → Bool
 whole k s = eqb (length s) (k + 2 + 20 * get_or s (k + 1) 0)
 
-abbrev pub if_right : Bool → Store → Result
-if_right ok st = cond ok (Keep st) (Refuse BadStore)
+abbrev pub if_right : Bool → Store → Result Store Refusal
+if_right ok st = cond ok (Ok st) (Err BadStore)
 
-abbrev pub file_of : List ℕ → Result
+abbrev pub file_of : List ℕ → Result Store Refusal
 file_of s =
-    cond (eqb (length s) 0) (Refuse BadStore)
+    cond (eqb (length s) 0) (Err BadStore)
     (cond (eqb (get_or s 0 0) 2)
     (if_right (eqb (get_or s 1 0) 4 && (right_body 6 s && whole 6 s)) (store_in 6 (four_at s 2) s))
-    (cond (eqb (get_or s 0 0) 1) (if_right (right_body 1 s && whole 1 s) (store_in 1 16384 s)) (Refuse UnknownVersion)))
+    (cond (eqb (get_or s 0 0) 1) (if_right (right_body 1 s && whole 1 s) (store_in 1 16384 s)) (Err UnknownVersion)))
 
 abbrev pub memory_size : ℕ
 memory_size = 1288
 
-abbrev pub memory_of : List ℕ → Result
+abbrev pub memory_of : List ℕ → Result Store Refusal
 memory_of s =
-    cond (eqb (length s) 0) (Refuse BadStore)
-    (cond (not (eqb (get_or s 0 0) 2)) (Refuse UnknownVersion)
+    cond (eqb (length s) 0) (Err BadStore)
+    (cond (not (eqb (get_or s 0 0) 2)) (Err UnknownVersion)
     (if_right (leb memory_size (length s) && (eqb (get_or s 1 0) 4 && right_body 6 s)) (store_in 6 (four_at s 2) s)))

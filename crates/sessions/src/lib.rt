@@ -1,7 +1,6 @@
 // What the settings store keeps and answers (document 02, 9/14). No function: what is done with it stands in `store`.
 #![tactic(auto)]
 
-use answers::Refusal;
 use frame::Format;
 use modes::Mode;
 
@@ -16,18 +15,4 @@ pub struct Meter {
     pub number: u32,
     // No number of the meter was heard yet: none is issued.
     pub unsure: bool,
-}
-
-// What a call answers that asks for a number.
-#[derive(Clone, Copy)]
-pub enum Value {
-    Accepted(u32),
-    Refused(Refusal),
-}
-
-// What a call answers that asks for a meter.
-#[derive(Clone, Copy)]
-pub enum Lookup {
-    Accepted(Meter),
-    Refused(Refusal),
 }

@@ -2,16 +2,18 @@
 --     kept_from                the meters of a memory
 --     Backup, backup_file      the meters of a file, and its allowance
 -- Assumes nothing.
+use Rattle.std.specs.Prelude.{Result, Ok, Err}
 use mathlib.Core.List.{List, [], ◌++◌, append-nil}
 use mathlib.Core.Logic.{◌⊎◌, inl, inr}
 use mathlib.Core.Path.{◌≡◌, refl, ap, sym}
 use Prim.Native.Nat.{ℕ, ◌+◌, ◌*◌, ◌≤◌}
 use native.Mathlib.Omega.{arith}
 use lib.ListN.{length, drop}
+use Rattle.answers.specs.declared.Refusal.{Refusal}
 use Rattle.ground.specs.Bytes.{Bytes}
 use Rattle.ground.proofs.CaseLaws.{zero_not_one}
 use Rattle.address.proofs.KeyLaws.{four_at-append}
-use Rattle.sessions.specs.Meters.{Store, Result, Refuse, Keep}
+use Rattle.sessions.specs.Meters.{Store}
 use Rattle.sessions.specs.StoreFile.{meters_bytes, meters_in, version_one, bytes_of, file_of}
 use Rattle.sessions.specs.Valid.{Valid, IsFile}
 use Rattle.sessions.proofs.ExactLaws.{memory_of_exactly, file_of_exactly}
@@ -20,7 +22,6 @@ use Rattle.sessions.proofs.MeterBytesLaws.{length-meters_bytes}
 use Rattle.sessions.proofs.MetersInLaws.{meters_in_bytes, all_right_bytes}
 use Rattle.sessions.proofs.OnceLaws.{unlike_once}
 use Rattle.store.specs.Inner.{held_by, MetersFrom, first_of, allowance_of}
-use Rattle.store.specs.declared.judging.Held.{Held}
 use Rattle.store.proofs.KeptLaws.{Kept}
 
 -- the meters of a store that can stand in bytes, where they stand
@@ -46,7 +47,7 @@ module _
 
 pub record Backup (file : List ℕ) (n : ℕ) : Type 0 where
   pub store : Store
-  pub read : file_of file ≡ Keep store
+  pub read : file_of file ≡ Ok store
   pub from : MetersFrom (first_of file) n file
   pub meters : meters_in n (drop (first_of file) file) ≡ store.meters
   pub allowance : allowance_of file ≡ store.allowance
@@ -68,7 +69,7 @@ module _ {st : Store} (v : Valid st) where
       }
 
   backup_one :
-      st.allowance ≡ 16384 → file_of (version_one st.meters) ≡ Keep st
+      st.allowance ≡ 16384 → file_of (version_one st.meters) ≡ Ok st
       → Backup (version_one st.meters) (length st.meters)
   backup_one allows read =
       let there = sym (append-nil (meters_bytes st.meters)) in
@@ -82,7 +83,7 @@ module _ {st : Store} (v : Valid st) where
         some = omega arith;
       }
 
-backup_of : (file : List ℕ) (st : Store) → file_of file ≡ Keep st → IsFile file st → Backup file (length st.meters)
+backup_of : (file : List ℕ) (st : Store) → file_of file ≡ Ok st → IsFile file st → Backup file (length st.meters)
 backup_of file st read f = by_version f.bytes
   where
     by_version :
@@ -92,13 +93,13 @@ backup_of file st read f = by_version f.bytes
     by_version (inr (is, allows)) = rw is (backup_one f.valid allows (rw is at read))
 
 module _ (file : List ℕ) (n : ℕ) (bytes : Bytes file) where
-  backup_kept : (r : Result) → file_of file ≡ r → held_by r ≡ Held.Meters n → Backup file n
-  backup_kept (Refuse why) e h = absurd (zero_not_one (cc))
-  backup_kept (Keep st) e h =
+  backup_kept : (r : Result Store Refusal) → file_of file ≡ r → held_by r ≡ Ok n → Backup file n
+  backup_kept (Err why) e h = absurd (zero_not_one (cc))
+  backup_kept (Ok st) e h =
       let size : length st.meters ≡ n = cc in
       rw (← size) (backup_of file st e ((file_of_exactly file st bytes).0 e))
 
-  pub backup_file : held_by (file_of file) ≡ Held.Meters n → Backup file n
+  pub backup_file : held_by (file_of file) ≡ Ok n → Backup file n
   backup_file h = backup_kept (file_of file) refl h
 
 pub kept_from : {s : List ℕ} {count : ℕ} → Bytes s → Kept s count → MetersFrom 8 count s

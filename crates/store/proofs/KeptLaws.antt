@@ -7,6 +7,7 @@
 --     meter_there, meter_known    what is held of it
 --     memory_put               the memory with the meter put, as the code leaves it
 -- Assumes nothing.
+use Rattle.std.specs.Prelude.{Result, Ok, Err}
 use mathlib.Core.Bool.{true, false}
 use mathlib.Core.List.{List, []}
 use mathlib.Core.Path.{◌≡◌, refl, ◌∙◌, ap, sym}
@@ -22,7 +23,7 @@ use Rattle.answers.specs.Outcome.{leaving}
 use Rattle.answers.specs.declared.Refusal.{Refusal}
 use Rattle.address.specs.Keys.{four_at}
 use Rattle.sessions.specs.declared.Meter.{Meter}
-use Rattle.sessions.specs.Meters.{Store, Result, Refuse, Keep, stranger, meter_of, holds}
+use Rattle.sessions.specs.Meters.{Store, stranger, meter_of, holds}
 use Rattle.sessions.specs.Changes.{with_meter}
 use Rattle.sessions.specs.StoreFile.{meter_bytes, meter_in, meters_in, unlike, memory_of}
 use Rattle.sessions.specs.StoreCalls.{◌and_then◌, kept, leaves}
@@ -31,13 +32,12 @@ use Rattle.sessions.proofs.MetersInLaws.{length-meters_in, get_or-meters_in}
 use Rattle.sessions.proofs.OnceLaws.{unlike_once}
 use Rattle.sessions.proofs.PutLaws.{meter_of-stranger}
 use Rattle.store.specs.Inner.{place_of, held_by, known_at}
-use Rattle.store.specs.declared.judging.Held.{Held}
 use Rattle.store.proofs.PlaceLaws.{place_of_le, place_of_held, place_of_none, meter_of_place_of}
 use Rattle.store.proofs.PutBytesLaws.{leaves_put}
 
 pub record Kept (s : List ℕ) (count : ℕ) : Type 0 where
   pub store : Store
-  pub read : memory_of s ≡ Keep store
+  pub read : memory_of s ≡ Ok store
   pub size : length store.meters ≡ count
   pub few : count ≤ 64
   pub room : 1288 ≤ length s
@@ -56,9 +56,9 @@ module _ (s : List ℕ) (count : ℕ) (bytes : Bytes s) where
       let n : get_or s 7 0 ≡ count = sym (length-meters_in (get_or s 7 0) (drop 8 s)) ∙ (ap length is ∙ size) in
       rw (← n) is
 
-  kept_of : (r : Result) → memory_of s ≡ r → held_by r ≡ Held.Meters count → Kept s count
-  kept_of (Refuse why) e h = absurd (zero_not_one (cc))
-  kept_of (Keep st) e h =
+  kept_of : (r : Result Store Refusal) → memory_of s ≡ r → held_by r ≡ Ok count → Kept s count
+  kept_of (Err why) e h = absurd (zero_not_one (cc))
+  kept_of (Ok st) e h =
       let w = (memory_of_exactly s st bytes).0 e in
       let is = memory_of_is s e in
       let size : length st.meters ≡ count = cc in
@@ -75,21 +75,21 @@ module _ (s : List ℕ) (count : ℕ) (bytes : Bytes s) where
         same = leaves_same bytes e;
       }
 
-  pub kept_memory : held_by (memory_of s) ≡ Held.Meters count → Kept s count
+  pub kept_memory : held_by (memory_of s) ≡ Ok count → Kept s count
   kept_memory h = kept_of (memory_of s) refl h
 
-pub refuse_of : (r : Result) {why : Refusal} → held_by r ≡ Held.Refused why → r ≡ Refuse why
-refuse_of (Refuse own) h = cc
-refuse_of (Keep st) h = absurd (zero_not_one (cc))
+pub refuse_of : (r : Result Store Refusal) {why : Refusal} → held_by r ≡ Err why → r ≡ Err why
+refuse_of (Err own) h = cc
+refuse_of (Ok st) h = absurd (zero_not_one (cc))
 
-module _ (s : List ℕ) {r : Held} {why : Refusal} (is : r ≡ held_by (memory_of s)) (told : r ≡ Held.Refused why) where
-  pub refused_is : memory_of s ≡ Refuse why
+module _ (s : List ℕ) {r : Result ℕ Refusal} {why : Refusal} (is : r ≡ held_by (memory_of s)) (told : r ≡ Err why) where
+  pub refused_is : memory_of s ≡ Err why
   refused_is = refuse_of (memory_of s) (sym is ∙ told)
 
   pub refused_memory :
-      {A : Type 0} (refuse : Refusal → A) (tell : Store → A) (call : Store → Result) →
+      {A : Type 0} (refuse : Refusal → A) (tell : Store → A) (call : Store → Result Store Refusal) →
       leaving (refuse why) s ≡ kept refuse tell s (memory_of s and_then call)
-  refused_memory refuse tell call = sym (ap (λ (x : Result). kept refuse tell s (x and_then call)) refused_is)
+  refused_memory refuse tell call = sym (ap (λ (x : Result Store Refusal). kept refuse tell s (x and_then call)) refused_is)
 
 module _ {s : List ℕ} {count : ℕ} (k : Kept s count) (a p : ℕ) (at : p ≡ place_of a (meters_in count (drop 8 s))) where
   pub at_place : p ≡ place_of a k.store.meters

@@ -3,6 +3,7 @@
 --     restore_full    too many meters
 --     restore_all     all of it: the meters brought in, the allowance, the count
 -- Assumes nothing.
+use Rattle.std.specs.Prelude.{Result, Ok, Err}
 use mathlib.Core.List.{List}
 use mathlib.Core.Path.{◌≡◌, ◌∙◌, ap, sym}
 use Prim.Native.Nat.{ℕ, ◌+◌, ◌*◌, ◌≤◌, ◌<◌}
@@ -13,9 +14,7 @@ use lib.Seq.{sets}
 use Rattle.answers.specs.Outcome.{Outcome, leaving}
 use Rattle.answers.specs.declared.Refusal.{Refusal}
 use Rattle.answers.specs.declared.Refusal.TheVariants.{StoreFull}
-use Rattle.answers.specs.declared.Written.{Written}
 use Rattle.address.specs.Keys.{four_bytes}
-use Rattle.sessions.specs.Meters.{Refuse}
 use Rattle.sessions.specs.Changes.{within}
 use Rattle.sessions.specs.StoreFile.{size_of, file_of}
 use Rattle.sessions.specs.StoreCalls.{kept, leaves, restoring}
@@ -28,19 +27,19 @@ byte_kept : {s : List ℕ} {count : ℕ} (k : Kept s count) (i : ℕ) → get_or
 byte_kept k i = ap (λ (t : List ℕ). get_or t i 0) (sym k.same)
 
 module _ {s : List ℕ} {count : ℕ} (k : Kept s count) (file : List ℕ) where
-  pub file_refused : {why : Refusal} → file_of file ≡ Refuse why → leaving (Written.Refused why) s ≡ restoring file s
+  pub file_refused : {why : Refusal} → file_of file ≡ Err why → leaving (Err why) s ≡ restoring file s
   file_refused none = rw (k.read, none)
 
   module _ {n first : ℕ} (b : Backup file n) (at : first ≡ first_of file) where
     restoring_is :
         restoring file s
-        ≡ kept Written.Refused (λ st. Written.Accepted (size_of st)) s
+        ≡ kept Err (λ st. Ok (size_of st)) s
         (within (record { meters = restored_to s count file first n; allowance = allowance_of file }))
     restoring_is = rw (at, k.read, b.read, k.meters, b.meters, b.allowance)
 
     -- as many as there are then
     module _ {total : ℕ} (counted : total ≡ length (restored_to s count file first n)) where
-      pub restore_full : 64 < total → leaving (Written.Refused StoreFull) s ≡ restoring file s
+      pub restore_full : 64 < total → leaving (Err StoreFull) s ≡ restoring file s
       restore_full many = sym (restoring_is ∙ rw (lt-ltb 64 (length (restored_to s count file first n)) (omega arith)))
 
       -- the memory after the calls
@@ -60,7 +59,7 @@ module _ {s : List ℕ} {count : ℕ} (k : Kept s count) (file : List ℕ) where
               (byte_kept k 6))
 
           pub restore_all :
-              ◌≡◌ {A = Outcome Written} (record { answer = Written.Accepted (8 + 20 * total); memory = set u 7 total })
+              ◌≡◌ {A = Outcome (Result ℕ Refusal)} (record { answer = Ok (8 + 20 * total); memory = set u 7 total })
               (restoring file s)
           restore_all =
               let R = restored_to s count file first n in

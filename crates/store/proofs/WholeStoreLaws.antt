@@ -5,6 +5,8 @@
 --     write_short, write_all         writing it
 --     add_unlisted, add_listed       adding by numbers
 -- Assumes nothing.
+use Rattle.sessions.specs.Meters.{Store}
+use Rattle.std.specs.Prelude.{Result, Ok, Err}
 use mathlib.Core.Bool.{true, ◌||◌}
 use mathlib.Core.List.{List, [], ◌∷◌, ◌++◌}
 use mathlib.Core.Path.{◌≡◌, refl, ◌∙◌, ap, sym}
@@ -18,11 +20,8 @@ use lib.Seq.{sets, sets-eq, take_at, paste}
 use Rattle.answers.specs.Outcome.{Outcome, leaving}
 use Rattle.answers.specs.declared.Refusal.{Refusal}
 use Rattle.answers.specs.declared.Refusal.TheVariants.{NoRoom, BadStore}
-use Rattle.answers.specs.declared.Written.{Written}
 use Rattle.modes.specs.Tables.{mode_of, format_of}
 use Rattle.address.specs.Keys.{four_bytes, four_at}
-use Rattle.sessions.specs.declared.Value.{Value}
-use Rattle.sessions.specs.Meters.{Result, Refuse, Keep}
 use Rattle.sessions.specs.Changes.{empty_store, allowing}
 use Rattle.sessions.specs.StoreFile.{meters_bytes, bytes_of, size_of, memory_of}
 use Rattle.sessions.specs.StoreCalls.{◌and_then◌, kept, leaves, emptying, setting_allowance, copied, writing_store, allowed, allowance_in, adding, adding_by}
@@ -30,7 +29,7 @@ use Rattle.sessions.proofs.LeavesLaws.{length_bytes_of}
 use Rattle.store.specs.Inner.{unlisted_by}
 use Rattle.store.proofs.KeptLaws.{Kept}
 
-pub empty_short : (s : List ℕ) → length s < 1288 → leaving (Written.Refused NoRoom) s ≡ emptying s
+pub empty_short : (s : List ℕ) → length s < 1288 → leaving (Err NoRoom) s ≡ emptying s
 empty_short s few = rw (lt-ltb (length s) 1288 few)
 
 leaves_empty :
@@ -40,41 +39,41 @@ leaves_empty s room = sets-eq (2 ∷ 4 ∷ 0 ∷ 0 ∷ 64 ∷ 0 ∷ 1 ∷ 0 ∷ 
 
 pub empty-all :
     (s : List ℕ) {t u : List ℕ} → 1288 ≤ length s → t ≡ sets s 0 (2 ∷ 4 ∷ 0 ∷ 0 ∷ []) →
-    u ≡ sets t 4 (64 ∷ 0 ∷ 1 ∷ 0 ∷ []) → leaving (Written.Accepted 8) u ≡ emptying s
+    u ≡ sets t 4 (64 ∷ 0 ∷ 1 ∷ 0 ∷ []) → leaving (Ok 8) u ≡ emptying s
 empty-all s room first second =
-    rw (le-ltb (length s) 1288 room, second, first) (ap (leaving (Written.Accepted 8)) (leaves_empty s room))
+    rw (le-ltb (length s) 1288 room, second, first) (ap (leaving (Ok 8)) (leaves_empty s room))
 
 unlisted_call :
-    (r : Result) (s : List ℕ) →
-    leaving (Written.Refused (unlisted_by r)) s
-    ≡ kept Written.Refused (λ st. Written.Accepted (size_of st)) s (r and_then (λ st. Refuse BadStore))
-unlisted_call (Refuse why) s = refl
-unlisted_call (Keep st) s = refl
+    (r : Result Store Refusal) (s : List ℕ) →
+    leaving (Err (unlisted_by r)) s
+    ≡ kept Err (λ st. Ok (size_of st)) s (r and_then (λ st. Err BadStore))
+unlisted_call (Err why) s = refl
+unlisted_call (Ok st) s = refl
 
 module _ (a mode format : ℕ) (s : List ℕ) where
   pub add_unlisted :
       {why : Refusal} →
       ltb 5 mode || ltb 1 format ≡ true →
       why ≡ unlisted_by (memory_of s) →
-      leaving (Written.Refused why) s ≡ adding_by a mode format s
+      leaving (Err why) s ≡ adding_by a mode format s
   add_unlisted wrong is = rw (is, wrong) (unlisted_call (memory_of s) s)
 
   pub add_listed : mode ≤ 5 → format ≤ 1 → adding a (mode_of mode) (format_of format) s ≡ adding_by a mode format s
   add_listed five one = rw (le-ltb 5 mode five, le-ltb 1 format one)
 
 module _ {s : List ℕ} {count : ℕ} (k : Kept s count) where
-  pub allow_read : {n : ℕ} → n ≡ four_at s 2 → Value.Accepted n ≡ allowance_in s
-  allow_read is = ap Value.Accepted (is ∙ k.allowance) ∙ sym (ap allowed k.read)
+  pub allow_read : {n : ℕ} → n ≡ four_at s 2 → Ok n ≡ allowance_in s
+  allow_read is = ap Ok (is ∙ k.allowance) ∙ sym (ap allowed k.read)
 
   pub allow_set :
       (n : ℕ) {t : List ℕ} →
-      t ≡ sets s 2 (four_bytes n) → leaving (Written.Accepted (8 + 20 * count)) t ≡ setting_allowance n s
+      t ≡ sets s 2 (four_bytes n) → leaving (Ok (8 + 20 * count)) t ≡ setting_allowance n s
   allow_set n {t} is =
       let st = k.store in
       let leaves-set : t ≡ leaves (record { meters = st.meters; allowance = n }) s =
       is ∙ sym (ap (λ (l : List ℕ). sets l 2 (four_bytes n)) k.same) in
-      let call : Result → Outcome Written =
-      λ r. kept Written.Refused (λ x. Written.Accepted (size_of x)) s (r and_then allowing n) in
+      let call : Result Store Refusal → Outcome (Result ℕ Refusal) =
+      λ r. kept Err (λ x. Ok (size_of x)) s (r and_then allowing n) in
       sym (ap call k.read ∙ rw (leaves-set, k.size))
 
   take_kept : take (8 + 20 * count) s ≡ bytes_of k.store
@@ -84,15 +83,15 @@ module _ {s : List ℕ} {count : ℕ} (k : Kept s count) where
       ∙ take_at (bytes_of st) (drop (size_of st) s) (8 + 20 * count) (length_bytes_of st ∙ rw k.size)
 
   module _ (d : List ℕ) where
-    pub write_short : length d < 8 + 20 * count → leaving (Written.Refused NoRoom) d ≡ writing_store s d
+    pub write_short : length d < 8 + 20 * count → leaving (Err NoRoom) d ≡ writing_store s d
     write_short few =
-        sym (ap (λ (r : Result). copied r d) k.read ∙ rw (k.size, lt-ltb (length d) (8 + 20 * count) few))
+        sym (ap (λ (r : Result Store Refusal). copied r d) k.read ∙ rw (k.size, lt-ltb (length d) (8 + 20 * count) few))
 
     pub write_all :
         {t : List ℕ} → 8 + 20 * count ≤ length d → t ≡ paste d 0 s (8 + 20 * count) →
-        leaving (Written.Accepted (8 + 20 * count)) t ≡ writing_store s d
+        leaving (Ok (8 + 20 * count)) t ≡ writing_store s d
     write_all {t} room is =
         let filled : t ≡ bytes_of k.store ++ drop (8 + 20 * count) d =
         is ∙ rw (take_kept, zero-add (8 + 20 * count)) in
-        sym (ap (λ (r : Result). copied r d) k.read
+        sym (ap (λ (r : Result Store Refusal). copied r d) k.read
         ∙ rw (filled, k.size, le-ltb (length d) (8 + 20 * count) room))

@@ -17,15 +17,14 @@
 --     merging s ms       the memory s with the meters ms for its own
 --     newcomer m         a file's entry m for a meter that was not held
 --     four_from s k       four bytes of s
-use Rattle.std.specs.Prelude.{true, cond, List, [], ◌∷◌, ◌++◌, ◌≡◌, ℕ, zero, suc, ◌+◌, ◌*◌, ◌%◌, ◌<◌, ◌≤◌, eqb, ltb, length, get_or, take, drop}
+use Rattle.std.specs.Prelude.{true, cond, List, [], ◌∷◌, ◌++◌, ◌≡◌, ℕ, zero, suc, ◌+◌, ◌*◌, ◌%◌, ◌<◌, ◌≤◌, eqb, ltb, length, get_or, take, drop, Result, Ok, Err}
 use Rattle.address.specs.Keys.{four_at, key_at}
 use Rattle.sessions.specs.declared.Meter.{Meter}
 use Rattle.answers.specs.declared.Refusal.{Refusal}
 use Rattle.answers.specs.declared.Refusal.TheVariants.{BadStore}
-use Rattle.sessions.specs.Meters.{Result, Refuse, Keep, stranger}
+use Rattle.sessions.specs.Meters.{stranger, Store}
 use Rattle.sessions.specs.Changes.{merged, restored}
 use Rattle.sessions.specs.StoreFile.{meters_bytes, meter_in, meters_in, all_right, unlike}
-use Rattle.store.specs.declared.judging.Held.{Held}
 
 unfoldable pub place_of : ℕ → List Meter → ℕ
 place_of a [] = 0
@@ -45,9 +44,9 @@ pub record Indexed (table s : List ℕ) (first k : ℕ) : Type 0 where
   pub slots : (h : ℕ) → h < 509 → get_or table h 0 ≡ last_with s first h k
   pub links : (j : ℕ) → j < k → get_or table (509 + j) 0 ≡ last_with s first (slot_of (address_at s first j)) j
 
-abbrev pub held_by : Result → Held
-held_by (Refuse why) = Held.Refused why
-held_by (Keep st) = Held.Meters (length st.meters)
+abbrev pub held_by : Result Store Refusal → Result ℕ Refusal
+held_by (Err why) = Err why
+held_by (Ok st) = Ok (length st.meters)
 
 abbrev pub known_at : List ℕ → ℕ → ℕ → ℕ → Meter
 known_at s count place a = cond (ltb place count) (meter_in (drop (8 + 20 * place) s)) (stranger a)
@@ -56,9 +55,9 @@ abbrev pub with_number : ℕ → Meter → Meter
 with_number n m =
     record { address = m.address; mode = m.mode; format = m.format; number = n; unsure = m.unsure }
 
-abbrev pub unlisted_by : Result → Refusal
-unlisted_by (Refuse why) = why
-unlisted_by (Keep st) = BadStore
+abbrev pub unlisted_by : Result Store Refusal → Refusal
+unlisted_by (Err why) = why
+unlisted_by (Ok st) = BadStore
 
 pub record MetersFrom (first n : ℕ) (s : List ℕ) : Type 0 where
   pub few : n ≤ 64

@@ -2,20 +2,12 @@
 ghost use Rattle.std.specs.Prelude.{◌≡◌, true, ◌&&◌, [], ℕ, ◌+◌, ◌*◌, ◌≤◌, ◌<◌, length, get_or, drop};
 ghost use Rattle.sessions.specs.StoreFile.{meters_in, all_right, unlike, right_body, whole, memory_of, file_of};
 ghost use Rattle.store.specs.Inner.{held_by, Indexed};
-ghost use Rattle.store.specs.declared.judging.Held.{Held};
 
 use crate::{meters, places};
 use answers::Refusal;
 
 // Bytes of memory that a store is kept in.
 pub const MEMORY: usize = 1288;
-
-// What memory holds: so many meters.
-#[derive(Clone, Copy)]
-pub enum Held {
-    Meters(usize),
-    Refused(Refusal),
-}
 
 // Whether the `count` meters of s from `first` on are meters, none of them twice; if so, the table leads to them. Only
 // meters in the same slot are compared: the cost grows with the meters and not with their pairs.
@@ -66,27 +58,27 @@ fn right_body(s: &[u8], k: usize, table: &mut [u8]) -> bool
 
 // How many meters the memory s holds; the table then leads to them. The refusals in their order: 17 if it has no byte,
 // 18, 17.
-pub(crate) fn in_memory(s: &[u8], table: &mut [u8]) -> Held
+pub(crate) fn in_memory(s: &[u8], table: &mut [u8]) -> Result<usize, Refusal>
     requires { (573 ≤ length table.old) × Indexed table.old s.now 8 0 }
     ensures { (result ≡ held_by (memory_of s.now))
-        × ((n : ℕ) → result ≡ Held.Meters n → Indexed table.new s.now 8 n) }
+        × ((n : ℕ) → result ≡ Ok n → Indexed table.new s.now 8 n) }
 {
     if s.len() == 0 {
-        return Held::Refused(Refusal::BadStore);
+        return Err(Refusal::BadStore);
     }
     if s[0] != 2 {
-        return Held::Refused(Refusal::UnknownVersion);
+        return Err(Refusal::UnknownVersion);
     }
     if s.len() < MEMORY {
-        return Held::Refused(Refusal::BadStore);
+        return Err(Refusal::BadStore);
     }
     if s[1] != 4 {
-        return Held::Refused(Refusal::BadStore);
+        return Err(Refusal::BadStore);
     }
     if !right_body(s, 6, table) {
-        return Held::Refused(Refusal::BadStore);
+        return Err(Refusal::BadStore);
     }
-    Held::Meters(s[7] as usize)
+    Ok(s[7] as usize)
 }
 
 // Whether, besides, the bytes end with them.
@@ -102,11 +94,11 @@ fn whole_body(s: &[u8], k: usize) -> bool
 }
 
 // How many meters the file s holds. The refusals in their order: 17 if it is empty, 18, 17.
-pub(crate) fn in_file(s: &[u8]) -> Held
+pub(crate) fn in_file(s: &[u8]) -> Result<usize, Refusal>
     ensures { result ≡ held_by (file_of s.now) }
 {
     if s.len() == 0 {
-        return Held::Refused(Refusal::BadStore);
+        return Err(Refusal::BadStore);
     }
     if s[0] == 2 {
         return in_version_two(s);
@@ -114,36 +106,36 @@ pub(crate) fn in_file(s: &[u8]) -> Held
     if s[0] == 1 {
         return in_version_one(s);
     }
-    Held::Refused(Refusal::UnknownVersion)
+    Err(Refusal::UnknownVersion)
 }
 
 // A file of version 2: the allowance, then the count at place 6.
-fn in_version_two(s: &[u8]) -> Held
+fn in_version_two(s: &[u8]) -> Result<usize, Refusal>
     requires { (0 < length s.now) × (get_or s.now 0 0 ≡ 2) }
     ensures { result ≡ held_by (file_of s.now) }
 {
     if s.len() < 8 {
-        return Held::Refused(Refusal::BadStore);
+        return Err(Refusal::BadStore);
     }
     if s[1] != 4 {
-        return Held::Refused(Refusal::BadStore);
+        return Err(Refusal::BadStore);
     }
     if !whole_body(s, 6) {
-        return Held::Refused(Refusal::BadStore);
+        return Err(Refusal::BadStore);
     }
-    Held::Meters(s[7] as usize)
+    Ok(s[7] as usize)
 }
 
 // A file of version 1: the count at place 1.
-fn in_version_one(s: &[u8]) -> Held
+fn in_version_one(s: &[u8]) -> Result<usize, Refusal>
     requires { (0 < length s.now) × (get_or s.now 0 0 ≡ 1) }
     ensures { result ≡ held_by (file_of s.now) }
 {
     if s.len() < 3 {
-        return Held::Refused(Refusal::BadStore);
+        return Err(Refusal::BadStore);
     }
     if !whole_body(s, 1) {
-        return Held::Refused(Refusal::BadStore);
+        return Err(Refusal::BadStore);
     }
-    Held::Meters(s[2] as usize)
+    Ok(s[2] as usize)
 }

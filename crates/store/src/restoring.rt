@@ -1,57 +1,52 @@
 // A file brought into the store (document 02, 9/14): all of it or nothing.
 ghost use Rattle.std.specs.Prelude.{◌≡◌, true, ◌+◌, ◌≤◌, ◌<◌, length, drop};
 ghost use Rattle.std.proofs.lemmas.List.Edits.{sets};
-ghost use Rattle.answers.specs.Outcome.{Outcome};
+ghost use Rattle.answers.specs.Outcome.{leaving};
 ghost use Rattle.sessions.specs.Changes.{merged};
 ghost use Rattle.sessions.specs.StoreFile.{meter_bytes, meter_in, right_meter, memory_of, file_of};
 ghost use Rattle.sessions.specs.StoreCalls.{restoring};
 ghost use Rattle.store.specs.Inner.{Indexed, held_by, MetersFrom, first_of, allowance_of, restored_to, placed_in, merging, newcomer, four_from};
-ghost use Rattle.store.specs.declared.judging.Held.{Held};
 
-use crate::judging::Held;
 use crate::{judging, meters, places};
-use answers::{Refusal, Written};
+use answers::Refusal;
 
 // Restores a file. The refusals in their order: the memory's 17, 18, 17; the file's 17, 18, 17; 22.
-pub fn restore(store: &mut [u8], file: &[u8]) -> Written
-    ensures { ◌≡◌ {A = Outcome Written} (record { answer = result; memory = store.new })
-        (restoring file.now store.old) }
+pub fn restore(store: &mut [u8], file: &[u8]) -> Result<usize, Refusal>
+    ensures { leaving result store.new ≡ restoring file.now store.old }
 {
     let mut table = [0u8; places::TABLE];
     match judging::in_memory(store, &mut table) {
-        Held::Refused(why) => Written::Refused(why),
-        Held::Meters(count) => restore_to(store, count, &table, file),
+        Err(why) => Err(why),
+        Ok(count) => restore_to(store, count, &table, file),
     }
 }
 
-fn restore_to(store: &mut [u8], count: usize, table: &[u8], file: &[u8]) -> Written
-    requires { (held_by (memory_of store.old) ≡ Held.Meters count)
+fn restore_to(store: &mut [u8], count: usize, table: &[u8], file: &[u8]) -> Result<usize, Refusal>
+    requires { (held_by (memory_of store.old) ≡ Ok count)
         × ((573 ≤ length table.now) × Indexed table.now store.old 8 count) }
-    ensures { ◌≡◌ {A = Outcome Written} (record { answer = result; memory = store.new })
-        (restoring file.now store.old) }
+    ensures { leaving result store.new ≡ restoring file.now store.old }
 {
     match judging::in_file(file) {
-        Held::Refused(why) => Written::Refused(why),
-        Held::Meters(n) => restore_all(store, count, table, file, n),
+        Err(why) => Err(why),
+        Ok(n) => restore_all(store, count, table, file, n),
     }
 }
 
-fn restore_all(store: &mut [u8], count: usize, table: &[u8], file: &[u8], n: usize) -> Written
-    requires { (held_by (memory_of store.old) ≡ Held.Meters count) × ((573 ≤ length table.now)
-        × (Indexed table.now store.old 8 count × (held_by (file_of file.now) ≡ Held.Meters n))) }
-    ensures { ◌≡◌ {A = Outcome Written} (record { answer = result; memory = store.new })
-        (restoring file.now store.old) }
+fn restore_all(store: &mut [u8], count: usize, table: &[u8], file: &[u8], n: usize) -> Result<usize, Refusal>
+    requires { (held_by (memory_of store.old) ≡ Ok count) × ((573 ≤ length table.now)
+        × (Indexed table.now store.old 8 count × (held_by (file_of file.now) ≡ Ok n))) }
+    ensures { leaving result store.new ≡ restoring file.now store.old }
 {
     let first = first_of(file);
     let mut places = [0u8; 64];
     let total = places_in(store, count, table, file, first, n, &mut places);
     if 64 < total {
-        return Written::Refused(Refusal::StoreFull);
+        return Err(Refusal::StoreFull);
     }
     merge_all(store, count, file, first, n, &places);
     address::put_number(store, 2, allowance_of(file));
     store[7] = total as u8;
-    Written::Accepted(8 + 20 * total)
+    Ok(8 + 20 * total)
 }
 
 // Where the meters of a file begin: the allowance of version 2 stands before them.

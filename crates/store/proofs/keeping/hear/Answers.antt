@@ -1,7 +1,7 @@
 -- `keeping::hear` meets its contract: the memory is judged first. Assumes nothing.
+use Rattle.std.specs.Prelude.{Err}
 use mathlib.Core.Path.{◌∙◌, sym}
 use native.Mathlib.Omega.{arith}
-use Rattle.answers.specs.declared.Written.{Written}
 use Rattle.sessions.specs.Changes.{hearing}
 use Rattle.store.proofs.IndexLaws.{indexed_none}
 use Rattle.store.proofs.KeptLaws.{refused_memory}
@@ -18,5 +18,5 @@ hear_in-requires c =
 pub returns-in-Refused : goal.returns-in-Refused
 returns-in-Refused c =
     let a = c.args in
-    refused_memory a.store.now c.in_memory.ensures.0 c.in-Refused.is Written.Refused _
+    refused_memory a.store.now c.in_memory.ensures.0 c.in-Refused.is Err _
     (hearing a.address a.number)

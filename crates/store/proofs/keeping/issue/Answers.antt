@@ -1,7 +1,7 @@
 -- `keeping::issue` meets its contract: the memory is judged first. Assumes nothing.
+use Rattle.std.specs.Prelude.{Err}
 use mathlib.Core.Path.{◌∙◌, sym}
 use native.Mathlib.Omega.{arith}
-use Rattle.sessions.specs.declared.Value.{Value}
 use Rattle.sessions.specs.Changes.{issued}
 use Rattle.store.proofs.IndexLaws.{indexed_none}
 use Rattle.store.proofs.KeptLaws.{refused_memory}
@@ -18,5 +18,5 @@ issue_in-requires c =
 pub returns-in-Refused : goal.returns-in-Refused
 returns-in-Refused c =
     let a = c.args in
-    refused_memory a.store.now c.in_memory.ensures.0 c.in-Refused.is Value.Refused _
+    refused_memory a.store.now c.in_memory.ensures.0 c.in-Refused.is Err _
     (issued a.address)

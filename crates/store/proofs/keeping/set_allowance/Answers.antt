@@ -1,7 +1,7 @@
 -- `keeping::set_allowance` meets its contract: the memory is judged first. Assumes nothing.
+use Rattle.std.specs.Prelude.{Err}
 use mathlib.Core.Path.{◌∙◌, sym}
 use native.Mathlib.Omega.{arith}
-use Rattle.answers.specs.declared.Written.{Written}
 use Rattle.sessions.specs.Changes.{allowing}
 use Rattle.store.proofs.IndexLaws.{indexed_none}
 use Rattle.store.proofs.KeptLaws.{Kept, kept_memory, refused_memory}
@@ -34,7 +34,7 @@ overflow_add-result c =
 pub returns-in-Refused : goal.returns-in-Refused
 returns-in-Refused c =
     let a = c.args in
-    refused_memory a.store.now c.in_memory.ensures.0 c.in-Refused.is Written.Refused _
+    refused_memory a.store.now c.in_memory.ensures.0 c.in-Refused.is Err _
     (allowing a.allowance)
 
 pub returns-in-Meters : goal.returns-in-Meters

@@ -1,9 +1,11 @@
 -- `keeping::write` meets its contract: the memory is judged first. Assumes nothing.
+use Rattle.sessions.specs.Meters.{Store}
+use Rattle.answers.specs.declared.Refusal.{Refusal}
+use Rattle.std.specs.Prelude.{Result}
 use mathlib.Core.Path.{◌∙◌, ap, sym}
 use native.Mathlib.Omega.{arith}
 use Rattle.store.proofs.IndexLaws.{indexed_none}
 use Rattle.sessions.specs.StoreCalls.{copied}
-use Rattle.sessions.specs.Meters.{Result}
 use Rattle.store.proofs.KeptLaws.{refused_is}
 use Rattle.store.proofs.keeping.write.Goals as goal
 
@@ -17,5 +19,5 @@ write_from-requires c =
 pub returns-in-Refused : goal.returns-in-Refused
 returns-in-Refused c =
     let a = c.args in
-    sym (ap (λ (r : Result). copied r a.out.now)
+    sym (ap (λ (r : Result Store Refusal). copied r a.out.now)
     (refused_is a.store.now c.in_memory.ensures.0 c.in-Refused.is))

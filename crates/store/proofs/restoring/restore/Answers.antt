@@ -1,7 +1,7 @@
 -- `restoring::restore` meets its contract: the memory is judged first. Assumes nothing.
+use Rattle.std.specs.Prelude.{Err}
 use mathlib.Core.Path.{◌∙◌, sym}
 use native.Mathlib.Omega.{arith}
-use Rattle.answers.specs.declared.Written.{Written}
 use Rattle.sessions.specs.Changes.{restored_by}
 use Rattle.sessions.specs.StoreFile.{file_of}
 use Rattle.sessions.specs.StoreCalls.{◌and_then◌}
@@ -22,5 +22,5 @@ restore_to-requires c =
 pub returns-in-Refused : goal.returns-in-Refused
 returns-in-Refused c =
     let a = c.args in
-    refused_memory a.store.now c.in_memory.ensures.0 c.in-Refused.is Written.Refused _
+    refused_memory a.store.now c.in_memory.ensures.0 c.in-Refused.is Err _
     (λ st. file_of a.file.now and_then (λ backup. restored_by backup st))
