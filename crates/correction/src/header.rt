@@ -3,7 +3,6 @@ ghost use Rattle.std.specs.Prelude.{◌≡◌, ◌<◌};
 ghost use Rattle.codewords.specs.Corrections.{bit_of, id_of, announced_of};
 
 use answers::Refusal;
-use codewords::Announced;
 
 // Bit i of the ID: what two or three of its copies say.
 fn bit(h: u16, i: u32) -> u16
@@ -20,15 +19,15 @@ fn id(h: u16) -> u16
     bit(h, 0) + 2 * bit(h, 1) + 4 * bit(h, 2) + 8 * bit(h, 3) + 16 * bit(h, 4)
 }
 
-// What the header at the start of s announces; s may be longer.
-pub fn announced(s: &[u8]) -> Announced
+// Whether the header at the start of s announces Reed-Solomon (255, 223), the one code there is; s may be longer.
+pub fn announced(s: &[u8]) -> Result<(), Refusal>
     ensures { result ≡ announced_of s.now }
 {
     if s.len() < 2 {
-        return Announced::Refused(Refusal::Short);
+        return Err(Refusal::Short);
     }
     if id(address::two_at(s, 0)) != 1 {
-        return Announced::Refused(Refusal::UnknownCode);
+        return Err(Refusal::UnknownCode);
     }
-    Announced::ReedSolomon
+    Ok(())
 }

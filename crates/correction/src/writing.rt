@@ -2,13 +2,13 @@
 ghost use Rattle.std.specs.Prelude.{◌++◌, ◌≡◌, ◌+◌, ◌≤◌, length, take, drop};
 ghost use Rattle.std.proofs.lemmas.List.Edits.{sets};
 ghost use Rattle.address.specs.Keys.{key_bytes};
-ghost use Rattle.answers.specs.Outcome.{Outcome};
+ghost use Rattle.answers.specs.Outcome.{leaving};
 ghost use Rattle.codewords.specs.Corrections.{header_of, corrected, correcting_of, checking_of};
 ghost use Rattle.correction.specs.Inner.{bytes_of};
 
 use crate::division::{Remainder, divide};
-use answers::{Refusal, Written};
-use frame::{Format, Frame};
+use answers::Refusal;
+use frame::Format;
 
 // The longest word (12.8.3.2: a block has 255 bytes, 32 of them check bytes).
 const LONGEST: usize = 223;
@@ -60,36 +60,30 @@ fn put_corrected(s: &[u8], size: usize, out: &mut [u8])
 }
 
 // Writes the frame that s begins with, and its correction behind it; bytes of out after that stay.
-pub fn write(f: Format, s: &[u8], out: &mut [u8]) -> Written
-    ensures { ◌≡◌ {A = Outcome Written} (record { answer = result; memory = out.new })
-        (correcting_of f s.now out.old) }
+pub fn write(f: Format, s: &[u8], out: &mut [u8]) -> Result<usize, Refusal>
+    ensures { leaving result out.new ≡ correcting_of f s.now out.old }
 {
-    match frame::judge(f, s) {
-        Frame::Refused(r) => Written::Refused(r),
-        Frame::Accepted { size, n: _ } => {
-            if LONGEST < size {
-                return Written::Refused(Refusal::TooLong);
-            }
-            if out.len() < size + CORRECTION {
-                return Written::Refused(Refusal::NoRoom);
-            }
-            put_corrected(s, size, out);
-            Written::Accepted(size + CORRECTION)
-        }
+    let size = frame::judge(f, s)?.size;
+    if size > LONGEST {
+        return Err(Refusal::TooLong);
     }
+    if out.len() < size + CORRECTION {
+        return Err(Refusal::NoRoom);
+    }
+    put_corrected(s, size, out);
+    Ok(size + CORRECTION)
 }
 
 // The check bytes of any word alone, from the first byte of out on.
-pub fn check_bytes(w: &[u8], out: &mut [u8]) -> Written
-    ensures { ◌≡◌ {A = Outcome Written} (record { answer = result; memory = out.new })
-        (checking_of w.now out.old) }
+pub fn check_bytes(w: &[u8], out: &mut [u8]) -> Result<usize, Refusal>
+    ensures { leaving result out.new ≡ checking_of w.now out.old }
 {
-    if LONGEST < w.len() {
-        return Written::Refused(Refusal::TooLong);
+    if w.len() > LONGEST {
+        return Err(Refusal::TooLong);
     }
     if out.len() < CHECKS {
-        return Written::Refused(Refusal::NoRoom);
+        return Err(Refusal::NoRoom);
     }
     put_remainder(out, 0, divide(w));
-    Written::Accepted(CHECKS)
+    Ok(CHECKS)
 }

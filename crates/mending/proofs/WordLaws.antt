@@ -19,7 +19,6 @@ use lib.Dec.{eqb}
 use lib.ListN.{length, get_or, take, drop, length-drop, take-append-drop, drop_of_length-le}
 use lib.Seq.{drop-cons, length-take-le, take_all, take-add}
 use Rattle.answers.specs.Outcome.{Outcome}
-use Rattle.answers.specs.declared.Written.{Written}
 use Rattle.ground.specs.Apart.{apart}
 use Rattle.ground.specs.Bytes.{Bytes}
 use Rattle.ground.specs.Sums.{xors}
@@ -95,13 +94,13 @@ module _ (w : List ℕ) (end : ℕ) (bytes : Bytes w) (size : end + 32 ≡ lengt
 
   -- what the writer of check bytes leaves in 32 bytes of memory
   pub fresh_checks : {a : Written} {m : List ℕ} (d : List ℕ) → length d ≡ 32 → end ≤ 223
-      → ◌≡◌ {A = Outcome Written} (record { answer = a; memory = m }) (checking_of (take (end - 0) w) d)
+      → leaving a m ≡ (checking_of (take (end - 0) w) d)
       → m ≡ checks_of (take end w)
   fresh_checks {a} {m} d room most e =
       let all : end - 0 ≡ end = omega arith in
       let long : length (take (end - 0) w) ≤ 223 = rw (all, length-take-le end w (omega arith)) most in
       let c = checks_of (take (end - 0) w) in
-      ap (λ (o : Outcome Written). o.memory) (e ∙ checking_done (take (end - 0) w) d long (omega arith))
+      ap (λ (o : Outcome (Result ℕ Refusal)). o.memory) (e ∙ checking_done (take (end - 0) w) d long (omega arith))
       ∙ ap (λ (l : List ℕ). c ++ l) (drop_of_length-le d {i = 32} (omega arith)) ∙ append-nil c
       ∙ ap (λ (k : ℕ). checks_of (take k w)) all
 
@@ -109,13 +108,13 @@ module _ (w : List ℕ) (end : ℕ) (bytes : Bytes w) (size : end + 32 ≡ lengt
   tail_part = take_all (length w - end) (drop end w) (omega (arith, length-drop end w))
 
   pub code_tested : {n : ℕ} {a : Written} {m : List ℕ} (d : List ℕ) → length d ≡ 32 → end ≤ 223
-      → ◌≡◌ {A = Outcome Written} (record { answer = a; memory = m }) (checking_of (take (end - 0) w) d)
+      → leaving a m ≡ (checking_of (take (end - 0) w) d)
       → n ≡ apart (take (length w - end) (drop end w)) m → eqb n 0 ≡ is_code_block w
   code_tested d room most made is = tested (is ∙ ap₂ apart tail_part (fresh_checks d room most made))
 
   -- the check bytes that stand there, added to these
   pub remainder_made : {a : Written} {m r : List ℕ} (d : List ℕ) → length d ≡ 32 → end ≤ 223
-      → ◌≡◌ {A = Outcome Written} (record { answer = a; memory = m }) (checking_of (take (end - 0) w) d)
+      → leaving a m ≡ (checking_of (take (end - 0) w) d)
       → r ≡ xors (take (length w - end) (drop end w)) m → r ≡ xors (drop end w) (checks_of (take end w))
   remainder_made d room most made is = is ∙ ap₂ xors tail_part (fresh_checks d room most made)
 

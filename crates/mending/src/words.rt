@@ -20,21 +20,15 @@ pub(crate) const CORRECTION: usize = HEADER + CHECKS;
 const LONGEST: usize = 223;
 
 // The size of the frame by the length byte that s begins with.
-pub(crate) fn size_in(f: Format, s: &[u8]) -> Frame
+pub(crate) fn size_in(f: Format, s: &[u8]) -> Result<Frame, Refusal>
     ensures { result ≡ size_in f s.now }
 {
-    if s.len() < 1 {
-        return Frame::Refused(Refusal::Short);
+    let length = s.first().ok_or(Refusal::Short)?;
+    let frame = f.frame_size(*length)?;
+    if frame.size > LONGEST {
+        return Err(Refusal::TooLong);
     }
-    match f.frame_size(s[0]) {
-        Frame::Refused(r) => Frame::Refused(r),
-        Frame::Accepted { size, n } => {
-            if LONGEST < size {
-                return Frame::Refused(Refusal::TooLong);
-            }
-            Frame::Accepted { size, n }
-        }
-    }
+    Ok(frame)
 }
 
 fn unlike(x: u8, y: u8) -> usize

@@ -2,7 +2,6 @@
 use mathlib.Core.Path.{sym, ap, ◌∙◌}
 use mathlib.Core.List.{List}
 use Prim.Native.Nat.{ℕ}
-use Rattle.answers.specs.declared.Written.{Written}
 use Rattle.codewords.proofs.OutcomeLaws.{checking_long, checking_no_room, checking_done}
 use Rattle.correction.proofs.PutLaws.{checks_put}
 use Rattle.correction.proofs.writing.check_bytes.Goals as goal
@@ -19,6 +18,6 @@ pub returns : goal.returns
 returns c =
     let w = c.args.w.now in
     let out = c.args.out.now in
-    ap (λ (m : List ℕ). record { answer = Written.Accepted 32; memory = m })
+    ap (λ (m : List ℕ). leaving (Ok 32) m)
     (checks_put w out c.if-out-lt-CHECKS.false c.divide.ensures c.put_remainder.ensures)
     ∙ sym (checking_done w out c.if-w-gt-LONGEST.false c.if-out-lt-CHECKS.false)

@@ -3,7 +3,6 @@
 use mathlib.Core.Path.{◌≡◌, sym, ap, ◌∙◌}
 use mathlib.Core.List.{List}
 use Prim.Native.Nat.{ℕ, ◌+◌}
-use Rattle.answers.specs.declared.Written.{Written}
 use Rattle.frame.specs.declared.Frame.{Frame}
 use Rattle.frame.specs.Judging.{judge_of}
 use Rattle.frame.proofs.AcceptLaws.{judge_of-accepted}
@@ -15,7 +14,7 @@ use Rattle.correction.proofs.writing.write.Goals as goal
 judged :
     (c : In-Accepted)
     → let a = c.args in
-    judge_of a.f a.s.now ≡ Frame.Accepted c.in-Accepted.size c.in-Accepted.n
+    judge_of a.f a.s.now ≡ Ok (sizes c.in-Accepted.size c.in-Accepted.n)
 judged c = sym c.judge.ensures ∙ c.in-Accepted.is
 
 pub returns-then-size-gt-LONGEST : goal.returns-then-size-gt-LONGEST
@@ -43,7 +42,7 @@ returns-in-Refused c =
 pub returns-else-out-size : goal.returns-else-out-size
 returns-else-out-size c =
     let a = c.args in
-    ap (λ (m : List ℕ). record { answer = Written.Accepted (c.in-Accepted.size + 34); memory = m })
+    ap (λ (m : List ℕ). leaving (Ok (c.in-Accepted.size + 34)) m)
     c.put_corrected.ensures
     ∙ sym (correcting_done a.f a.s.now a.out.now (judged (goal.at.returns-else-out-size c).In-Accepted)
     c.if-size-gt-LONGEST.false c.if-out-size.false)

@@ -5,7 +5,6 @@ use native.Mathlib.Omega.{arith}
 use borrow.Author.Tests.{not-true, not-false}
 use lib.ListN.{take}
 use Rattle.proposals.specs.Received.{received}
-use Rattle.proposals.specs.declared.Proposal.{Proposal}
 use Rattle.proposals.proofs.ProposalLaws.{compared_no_code, compared_far, compared_taken}
 use Rattle.mending.proofs.WordLaws.{part_tested}
 use Rattle.mending.proofs.judging.compare.Goals as goal
@@ -26,7 +25,7 @@ returns-then-d-gt-MOST c =
 pub returns : goal.returns
 returns c =
     let z = c.args.size in
-    ap Proposal.Taken c.count-d.ensures
+    ap Ok c.count-d.ensures
     ∙ sym (compared_taken (received z c.args.s.now) (take (z + 32) c.args.p.now)
     (part_tested z c.args.p.now c.code_word.ensures (not-false _ c.if-not-code_word.false-raw))
     (omega (arith, c.count-d.ensures, c.if-d-gt-MOST.false)))

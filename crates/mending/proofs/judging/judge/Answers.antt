@@ -12,7 +12,7 @@ use Rattle.mending.proofs.judging.judge.Goals as goal
 judged :
     (c : In-Accepted)
     → let a = c.args in
-    size_in a.f a.p.now ≡ Frame.Accepted c.in-Accepted.size c.in-Accepted.n
+    size_in a.f a.p.now ≡ Ok (sizes c.in-Accepted.size c.in-Accepted.n)
 judged c = sym c.size_in.ensures ∙ c.in-Accepted.is
 
 sized : (c : In-Accepted) → c.in-Accepted.size ≤ 223

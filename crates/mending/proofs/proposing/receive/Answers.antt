@@ -4,7 +4,6 @@ use mathlib.Core.Path.{◌≡◌, sym, ap, ◌∙◌}
 use Prim.Native.Nat.{ℕ, ◌+◌, ◌≤◌}
 use native.Mathlib.Omega.{arith}
 use lib.ListN.{drop}
-use Rattle.answers.specs.declared.Written.{Written}
 use Rattle.frame.specs.declared.Frame.{Frame}
 use Rattle.proposals.specs.Received.{size_in, received}
 use Rattle.proposals.proofs.ProposalLaws.{size_in-accepted, proposing_refused, proposing_short, proposing_no_room, proposing_done}
@@ -16,7 +15,7 @@ use Rattle.mending.proofs.proposing.receive.Goals as goal
 judged :
     (c : In-Accepted)
     → let a = c.args in
-    size_in a.f a.s.now ≡ Frame.Accepted c.in-Accepted.size c.in-Accepted.n
+    size_in a.f a.s.now ≡ Ok (sizes c.in-Accepted.size c.in-Accepted.n)
 judged c = sym c.size_in.ensures ∙ c.in-Accepted.is
 
 sized : (c : In-Accepted) → c.in-Accepted.size ≤ 223
@@ -47,7 +46,7 @@ pub returns-else-out-size : goal.returns-else-out-size
 returns-else-out-size c =
     let a = c.args in
     let word = received c.in-Accepted.size a.s.now in
-    ap (λ (m : List ℕ). record { answer = Written.Accepted (c.in-Accepted.size + 32); memory = m })
+    ap (λ (m : List ℕ). leaving (Ok (c.in-Accepted.size + 32)) m)
     (c.put_received.ensures
     ∙ ap (λ (w : List ℕ). w ++ drop (c.in-Accepted.size + 32) a.out.now) (sym (nearest_zero word)))
     ∙ sym (proposing_done 0 a.f a.s.now a.out.now (judged (goal.at.returns-else-out-size c).In-Accepted)

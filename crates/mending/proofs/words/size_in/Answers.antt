@@ -11,7 +11,7 @@ use Rattle.mending.proofs.words.size_in.Goals as goal
 sized :
     (c : In-Accepted)
     → let a = c.args in
-    size_for a.f (get_or a.s.now 0 0) ≡ Frame.Accepted c.in-Accepted.size c.in-Accepted.n
+    size_for a.f (get_or a.s.now 0 0) ≡ Ok (sizes c.in-Accepted.size c.in-Accepted.n)
 sized c = sym c.frame_size.ensures ∙ c.in-Accepted.is
 
 pub returns-then-s-lt1 : goal.returns-then-s-lt1
