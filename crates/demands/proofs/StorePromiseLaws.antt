@@ -18,7 +18,7 @@ use Rattle.answers.specs.declared.Refusal.{Refusal}
 use Rattle.answers.specs.Outcome.{Outcome, leaving}
 use Rattle.ground.specs.Bytes.{Bytes}
 use Rattle.ground.proofs.CaseLaws.{by_test, zero_not_one}
-use Rattle.sessions.specs.Meters.{Store, Result, Refuse, Keep, holds}
+use Rattle.sessions.specs.Meters.{Store, holds}
 use Rattle.sessions.specs.Changes.{empty_store, restored, restored_by}
 use Rattle.sessions.specs.StoreFile.{bytes_of, size_of, memory_size, memory_of, file_of}
 use Rattle.sessions.specs.StoreCalls.{◌and_then◌, leaves, kept, emptying, copied, writing_store, restoring, found}
@@ -75,12 +75,12 @@ emptying_within s size bytes e =
     rw t (leaves_within s empty_store bytes room empty_store_valid, empty_store_none s room))
 
 module _ (s : List ℕ) (st : Store) (bytes : Bytes s) (w : Within s st) where
-  is : memory_of s ≡ Keep st
+  is : memory_of s ≡ Ok st
   is = (memory_of_exactly s st bytes).1 w
 
   pub written_read :
       (d : List ℕ) (size : ℕ) → (writing_store s d).answer ≡ Ok size
-      → file_of (take size (writing_store s d).memory) ≡ Keep st
+      → file_of (take size (writing_store s d).memory) ≡ Ok st
   written_read d size e =
       let same = ap (λ r. copied r d) is in
       let begins = copy_begins st d size (ltb (length d) (size_of st)) (rw same at e) in
@@ -90,12 +90,12 @@ module _ (s : List ℕ) (st : Store) (bytes : Bytes s) (w : Within s st) where
     abbrev new : Store
     new = record { meters = restored st.meters file.meters; allowance = file.allowance }
 
-    abbrev told : Result → Outcome (Result ℕ Refusal)
+    abbrev told : Result Store Refusal → Outcome (Result ℕ Refusal)
     told r = kept Err (λ x. Ok (size_of x)) s r
 
     restored-accepted :
         (t : Bool) → ltb 64 (length new.meters) ≡ t
-        → let o = told (cond t (Refuse Refusal.StoreFull) (Keep new)) in
+        → let o = told (cond t (Err Refusal.StoreFull) (Ok new)) in
         o.answer ≡ Ok size → (x : Store) × (Within o.memory x × Restores st file x)
     restored-accepted true e a = absurd (zero_not_one (cc))
     restored-accepted false e a =
@@ -111,10 +111,10 @@ module _ (s : List ℕ) (st : Store) (bytes : Bytes s) (w : Within s st) where
         rw same (restored-accepted (ltb 64 (length new.meters)) refl (rw same at a))
 
   left_within :
-      (r : Result) → ((x : Store) → r ≡ Keep x → Valid x)
+      (r : Result Store Refusal) → ((x : Store) → r ≡ Ok x → Valid x)
       → Bytes (left s r) × ((x : Store) × Within (left s r) x)
-  left_within (Refuse why) valid = (bytes, (st, w))
-  left_within (Keep x) valid =
+  left_within (Err why) valid = (bytes, (st, w))
+  left_within (Ok x) valid =
       let v = valid x refl in (bytes_leaves s v bytes, (x, leaves_within s x bytes w.room v))
 
   after_within : (c : Call) → InRange c → Bytes (after s c) × ((x : Store) × Within (after s c) x)

@@ -18,7 +18,7 @@ use Rattle.frame.specs.declared.Format.{Format}
 use Rattle.modes.specs.declared.Mode.{Mode}
 use Rattle.modes.specs.Tables.{mode_of, format_of}
 use Rattle.sessions.specs.declared.Meter.{Meter}
-use Rattle.sessions.specs.Meters.{Store, Result, Refuse, Keep, meter_of}
+use Rattle.sessions.specs.Meters.{Store, meter_of}
 use Rattle.sessions.specs.Changes.{with_meter, set_to, heard, next, added, hearing, issued, allowing, restored, restored_by}
 use Rattle.sessions.specs.StoreFile.{size_of, memory_size}
 use Rattle.sessions.specs.StoreCalls.{◌and_then◌, kept, storing, emptying, adding, adding_by, hearing_in, issuing, restoring, setting_allowance, copied, writing_store, found, looking_up, allowed, allowance_in}
@@ -38,10 +38,10 @@ empty_judged s =
 -- a call on the memory s that is refused where a test says so
 module _ {A : Type 0} (refused : Refusal → A) (told : Store → A) (s : List ℕ) where
   kept_when :
-      {n : ℕ} {case : Type 0} {rest : Rule (Outcome A)} (t : Bool) (why : Refusal) (r : Result) → Tells t case
+      {n : ℕ} {case : Type 0} {rest : Rule (Outcome A)} (t : Bool) (why : Refusal) (r : Result Store Refusal) → Tells t case
       → number_of why ≡ n → value_of why ≡ 0
       → (t ≡ false → Follows (λ x. leaving (refused x) s) rest (kept refused told s r))
-      → Follows (λ x. leaving (refused x) s) (n when case else rest) (kept refused told s (cond t (Refuse why) r))
+      → Follows (λ x. leaving (refused x) s) (n when case else rest) (kept refused told s (cond t (Err why) r))
   kept_when true why r tells number value go = taken_bare why (tells.yes refl) number value
   kept_when false why r tells number value go = passed_bare (tells.not refl) (go refl)
 
@@ -65,7 +65,7 @@ tells-le n m = record { yes = leb-true n m; not = λ e h. omega (arith, leb-fals
 module _ (s : List ℕ) (bytes : Bytes s) where
   -- a call on the store that s holds, judged by a ladder that goes on from there
   stored_follows :
-      (call : Store → Result) (rest : Store → Rule (Outcome (Result ℕ Refusal)))
+      (call : Store → Result Store Refusal) (rest : Store → Rule (Outcome (Result ℕ Refusal)))
       → ((st : Store) → Within s st
       → Follows (λ r. leaving (Err r) s) (rest st) (kept Err stored s (call st)))
       → Follows (λ r. leaving (Err r) s) (store_steps s rest) (storing call s)
@@ -78,7 +78,7 @@ module _ (s : List ℕ) (bytes : Bytes s) where
       (kept Err stored s (added a mode format st))
   add_follows a mode format st v =
       let m = set_to mode format (meter_of a st.meters) in
-      kept_when Err stored s _ Refusal.StoreFull (Keep (with_meter a m st)) (tells_full a st v m) refl refl
+      kept_when Err stored s _ Refusal.StoreFull (Ok (with_meter a m st)) (tells_full a st v m) refl refl
       (λ room. Follows.found _ (meter_of_known a st) (known_is a st v) (Follows.ended refl))
 
   pub add_judged :
@@ -101,7 +101,7 @@ module _ (s : List ℕ) (bytes : Bytes s) where
       judged_lent (λ p q e. cc) (λ x r w. never_refused written_refused x r w.1.1.1.1)
       (stored_follows (hearing a n) _
       (λ st w. held_follows (λ t. kept Err stored s
-      (cond (not t) (Refuse Refusal.NotHeld) (Keep (with_meter a (heard n (meter_of a st.meters)) st))))
+      (cond (not t) (Err Refusal.NotHeld) (Ok (with_meter a (heard n (meter_of a st.meters)) st))))
       refl a _ w.valid (λ p. Follows.ended refl)))
 
   restored_follows :
@@ -110,7 +110,7 @@ module _ (s : List ℕ) (bytes : Bytes s) where
       (kept Err stored s (restored_by file st))
   restored_follows st file v =
       let new : Store = record { meters = restored st.meters file.meters; allowance = file.allowance } in
-      kept_when Err stored s (ltb 64 (length new.meters)) Refusal.StoreFull (Keep new)
+      kept_when Err stored s (ltb 64 (length new.meters)) Refusal.StoreFull (Ok new)
       (tells_over st.meters file v) refl refl (λ room. Follows.ended refl)
 
   pub restore_judged : (f : List ℕ) → Bytes f → JudgedLent Err s (restore_rule f s) (restoring f s)
@@ -148,22 +148,22 @@ module _ (s : List ℕ) (bytes : Bytes s) where
     abbrev m : Meter
     m = meter_of a st.meters
 
-    abbrev below : Result
-    below = cond (leb 4294967295 m.number) (Refuse Refusal.NumbersUsedUp) (Keep (with_meter a (next m) st))
+    abbrev below : Result Store Refusal
+    below = cond (leb 4294967295 m.number) (Err Refusal.NumbersUsedUp) (Ok (with_meter a (next m) st))
 
     number_follows :
         Follows (λ r. leaving (Err r) s) (issue_steps a s st m)
-        (kept Err (number a) s (cond m.unsure (Refuse Refusal.Unsure) below))
+        (kept Err (number a) s (cond m.unsure (Err Refusal.Unsure) below))
     number_follows =
         let is = meter_of_put a (next m) (meter_of-address a st.meters) st.meters in
         kept_when Err (number a) s m.unsure Refusal.Unsure below (tells_true m.unsure) refl refl
         (λ sure. kept_when Err (number a) s (leb 4294967295 m.number) Refusal.NumbersUsedUp
-        (Keep (with_meter a (next m) st)) (tells-le 4294967295 m.number) refl refl (λ more. Follows.ended (rw is)))
+        (Ok (with_meter a (next m) st)) (tells-le 4294967295 m.number) refl refl (λ more. Follows.ended (rw is)))
 
   pub issue_judged : (a : ℕ) → JudgedLent Err s (issue_rule a s) (issuing a s)
   issue_judged a =
       judged_lent (λ p q e. cc) (λ x r w. never_refused value_refused x r w.1.1.1.1)
       (store_follows (λ r. kept Err (number a) s (r and_then issued a)) (λ r. refl) s bytes _
       (λ st w. held_follows (λ t. kept Err (number a) s
-      (cond (not t) (Refuse Refusal.NotHeld) (cond (m a st).unsure (Refuse Refusal.Unsure) (below a st))))
+      (cond (not t) (Err Refusal.NotHeld) (cond (m a st).unsure (Err Refusal.Unsure) (below a st))))
       refl a _ w.valid (λ p. number_follows a st)))

@@ -58,7 +58,7 @@ use Rattle.modes.specs.declared.Mode.{Mode}
 use Rattle.modes.specs.Tables.{mode_number, format_number}
 use Rattle.address.specs.Keys.{key_bytes, key_at}
 use Rattle.sessions.specs.declared.Meter.{Meter}
-use Rattle.sessions.specs.Meters.{Store, Keep}
+use Rattle.sessions.specs.Meters.{Store}
 use Rattle.sessions.specs.Changes.{empty_store, with_meter}
 use Rattle.sessions.specs.StoreFile.{mark_of, bytes_of, version_one, file_of}
 use Rattle.sessions.specs.StoreCalls.{emptying, adding, adding_by, hearing_in, issuing, restoring, writing_store, looking_up, allowance_in, setting_allowance}
@@ -76,7 +76,7 @@ use Rattle.channels.specs.declared.listing.Band.{Band}
 use Rattle.channels.specs.Table21.{entry_of, channels_of, quarters_of}
 use Rattle.channels.specs.Plan.{float, row_of, centre_of}
 use Rattle.channels.specs.Listing.{band_of, rows_of, lines_from, lines_of, line_at, channel_line}
-use Rattle.kusikhut.specs.Told.{Told, told, tells, told_updated, told_decoded, told_word, told_written, told_size, told_frame, told_sync, told_header, told_maker, told_verdict, told_value, told_lookup, told_line, told_centre, told_reception, told_announced, told_proposal, kind_number, reach_number}
+use Rattle.kusikhut.specs.Told.{Told, told, tells, told_number, told_decoded, told_size, told_frame, told_sync, told_header, told_maker, told_verdict, told_lookup, told_line, told_centre, told_reception, told_announced, kind_number, reach_number}
 use Rattle.demands.specs.Rules.{Judged, JudgedLent}
 use Rattle.demands.specs.Cases.{InUse, Spells}
 use Rattle.demands.specs.TopBit.{top_turned}
@@ -326,10 +326,10 @@ pub record Plain : Type 0 where
 -- accepted, the number is 0 and the row has the sizes and values; if it is refused, all results are zero except the one
 -- that 01 names for this refusal. So a refusal rewrites the row, but no byte of the buffer lent for the output.
 pub record AcceptedRows : Type 0 where
-  pub updating_a_check : (c : ℕ) → told_updated (Ok c) ≡ told 0 (c ∷ [])
+  pub updating_a_check : (c : ℕ) → told_number (Ok c) ≡ told 0 (c ∷ [])
   pub decoding : told_decoded (Ok tt) ≡ told 0 (0 ∷ [])
-  pub one_word : (x : ℕ) → told_word (Ok x) ≡ told 0 (x ∷ [])
-  pub writing : (size : ℕ) → told_written (Ok size) ≡ told 0 (size ∷ [])
+  pub one_word : (x : ℕ) → told_number (Ok x) ≡ told 0 (x ∷ [])
+  pub writing : (size : ℕ) → told_number (Ok size) ≡ told 0 (size ∷ [])
   pub frame_size_is : (z n : ℕ) → told_size (Ok (sizes z n)) ≡ told 0 (z ∷ [])
   pub reading : (z n : ℕ) → told_frame (Ok (sizes z n)) ≡ told 0 (z ∷ n ∷ 0 ∷ [])
   pub searching : (place tried : ℕ) → told_sync (Ok (found place tried)) ≡ told 0 (place ∷ tried ∷ [])
@@ -349,20 +349,20 @@ pub record AcceptedRows : Type 0 where
       → told_maker (record { spelled = None; reach = r }) ≡ told 0 (0 ∷ 0 ∷ 0 ∷ 0 ∷ reach_number r ∷ [])
   pub reaches : map reach_number (Reach.Hard ∷ Reach.Soft ∷ []) ≡ 0 ∷ 1 ∷ []
   pub filtering : (told_verdict (Ok true) ≡ told 0 (1 ∷ [])) × (told_verdict (Ok false) ≡ told 0 (0 ∷ []))
-  pub judging_a_proposal : (d : ℕ) → told_proposal (Ok d) ≡ told 0 (d ∷ [])
+  pub judging_a_proposal : (d : ℕ) → told_number (Ok d) ≡ told 0 (d ∷ [])
 
 pub record RefusedRows : Type 1 where
-  pub updating_a_check : (r : Refusal) → told_updated (Err r) ≡ told (number_of r) (value_of r ∷ [])
+  pub updating_a_check : (r : Refusal) → told_number (Err r) ≡ told (number_of r) (value_of r ∷ [])
   pub decoding : (r : Refusal) → told_decoded (Err r) ≡ told (number_of r) (value_of r ∷ [])
-  pub one_word : (r : Refusal) → told_word (Err r) ≡ told (number_of r) (value_of r ∷ [])
-  pub writing : (r : Refusal) → told_written (Err r) ≡ told (number_of r) (value_of r ∷ [])
+  pub one_word : (r : Refusal) → told_number (Err r) ≡ told (number_of r) (value_of r ∷ [])
+  pub writing : (r : Refusal) → told_number (Err r) ≡ told (number_of r) (value_of r ∷ [])
   pub frame_size_is : (r : Refusal) → told_size (Err r) ≡ told (number_of r) (value_of r ∷ [])
   pub reading : (r : Refusal) → told_frame (Err r) ≡ told (number_of r) (0 ∷ 0 ∷ value_of r ∷ [])
   pub searching : (r : Refusal) → told_sync (Err r) ≡ told (number_of r) (0 ∷ value_of r ∷ [])
   pub reading_a_header :
       (r : Refusal) → told_header (Err r) ≡ told (number_of r) (value_of r ∷ replicate 13 0)
   pub filtering : (r : Refusal) → told_verdict (Err r) ≡ told (number_of r) (value_of r ∷ [])
-  pub judging_a_proposal : (r : Refusal) → told_proposal (Err r) ≡ told (number_of r) (value_of r ∷ [])
+  pub judging_a_proposal : (r : Refusal) → told_number (Err r) ≡ told (number_of r) (value_of r ∷ [])
   pub wrong_block :
       (b : ℕ)
       → told_reception (Err (Refusal.WrongCheck b)) ≡ told 3 (0 ∷ 0 ∷ 0 ∷ 0 ∷ 0 ∷ b ∷ 0 ∷ [])
@@ -381,8 +381,8 @@ pub record RefusedRows : Type 1 where
 -- The rows of the settings store: a number that was issued or asked for, and what is held of a meter, its mode and
 -- format by their numbers. All other calls on the store tell its size, as `writing` above.
 pub record StoreRows : Type 0 where
-  pub a_number : (n : ℕ) → told_value (Ok n) ≡ told 0 (n ∷ [])
-  pub no_number : (r : Refusal) → told_value (Err r) ≡ told (number_of r) (value_of r ∷ [])
+  pub a_number : (n : ℕ) → told_number (Ok n) ≡ told 0 (n ∷ [])
+  pub no_number : (r : Refusal) → told_number (Err r) ≡ told (number_of r) (value_of r ∷ [])
   pub a_meter :
       (m : Meter)
       → told_lookup (Ok m)
@@ -529,11 +529,11 @@ pub record SoftAddresses : Type 0 where
 -- allowance is 16,384. Nothing else is read. Reading what was written gives the same store. A meter's number is the
 -- eight bytes of M and A as received. `layout` has one store in both versions, byte by byte.
 pub record StoreFiles : Type 0 where
-  pub accepted_exactly : (f : List ℕ) (st : Store) → Bytes f → (file_of f ≡ Keep st) ↔ IsFile f st
+  pub accepted_exactly : (f : List ℕ) (st : Store) → Bytes f → (file_of f ≡ Ok st) ↔ IsFile f st
   pub written_then_read :
       (s : List ℕ) (st : Store) → Bytes s → Within s st
       → (d : List ℕ) (size : ℕ) → (writing_store s d).answer ≡ Ok size
-      → file_of (take size (writing_store s d).memory) ≡ Keep st
+      → file_of (take size (writing_store s d).memory) ≡ Ok st
   pub as_received : (name : List ℕ) → Bytes name → length name ≡ 8 → key_bytes (key_at name 0) ≡ name
   pub layout :
       let m : Meter = record {
