@@ -3,13 +3,13 @@
 use mathlib.Core.Path.{◌≡◌, sym, ◌∙◌}
 use Prim.Native.Nat.{ℕ}
 use native.Mathlib.Omega.{arith}
+use Rattle.std.specs.Prelude.{Ok, Err}
 use Rattle.answers.specs.declared.Refusal.{Refusal}
 use Rattle.ground.proofs.CaseLaws.{zero_not_one}
-use Rattle.proposals.specs.declared.Proposal.{Proposal}
 use Rattle.entry.proofs.CellarLaws.{place_inside, cellar_taken, cellar_read}
 use Rattle.entry.proofs.mended.mended_and_read.Goals as goal
 
-no-refusal : {k : ℕ} {r : Refusal} → Proposal.Taken k ≡ Proposal.Refused r → ⊥
+no-refusal : {k : ℕ} {r : Refusal} → Ok k ≡ Err r → ⊥
 no-refusal e = zero_not_one (cc)
 
 pub bounds-sent-place : goal.bounds-sent-place

@@ -5,12 +5,12 @@ use Rattle.ground.proofs.CaseLaws.{zero_not_one}
 use Rattle.entry.proofs.NamedLaws.{soft_receiver}
 use Rattle.entry.proofs.named.of_a_header.Goals as goal
 
-pub returns-in-Accepted : goal.returns-in-Accepted
-returns-in-Accepted c h n accepted has =
+pub returns-in-Ok : goal.returns-in-Ok
+returns-in-Ok c h n accepted has =
     soft_receiver c.args.body.now h _ n _ (λ j. omega (arith, c.shared_slice_known-1.given j))
-    accepted has (sym c.read.ensures ∙ c.in-Accepted.is) c.kusikhut_maker.ensures
+    accepted has (sym c.read.ensures ∙ c.in-Ok.is) c.kusikhut_maker.ensures
 
-pub returns-in-Refused : goal.returns-in-Refused
-returns-in-Refused c h n accepted has =
-    let refused = sym c.in-Refused.is ∙ c.read.ensures ∙ accepted in
+pub returns-in-Err : goal.returns-in-Err
+returns-in-Err c h n accepted has =
+    let refused = sym c.in-Err.is ∙ c.read.ensures ∙ accepted in
     absurd (zero_not_one (cc))

@@ -5,5 +5,5 @@ use Rattle.entry.proofs.repeated.turned_back.Goals as goal
 pub not_above-requires : goal.not_above-requires
 not_above-requires c = (
   c.args.s.now,
-  (λ j. omega (arith, c.slice_known-1.given j), rw (← c.in-Accepted.is) c.issue.ensures),
+  (λ j. omega (arith, c.slice_known-1.given j), rw (← c.in-Ok.is) c.issue.ensures),
 )
