@@ -12,7 +12,7 @@ use Prim.Native.Nat.{ℕ, ◌+◌, ◌-◌, ◌≤◌, ◌<◌, min}
 use native.Mathlib.Omega.{arith}
 use lib.ListN.{length, take, drop, length-drop}
 use lib.Seq.{paste, length-paste}
-use Rattle.std.specs.Prelude.{None}
+use Rattle.std.specs.Prelude.{Some, None}
 use Rattle.blocks.specs.Spans.{sealed, framed, payload, block_ok, first_wrong, size_of, cut, spans}
 use Rattle.blocks.specs.Places.{place_in, check_in}
 use Rattle.blocks.proofs.WalkLaws.{filled, filled_start, filled_end}
@@ -41,7 +41,7 @@ module _ {s : List ℕ} {first later t at most left block : ℕ} (w : Checking s
     pub checking_fits : at + (k + 2 + size_of (spans later later (left - k))) ≤ length s
     checking_fits = omega (arith, w.fits, size_of_turn e w.some l h)
 
-    pub checking_wrong : block_ok k (drop at s) ≡ false → Wrong block ≡ first_wrong 1 (spans first later t) s
+    pub checking_wrong : block_ok k (drop at s) ≡ false → Some block ≡ first_wrong 1 (spans first later t) s
     checking_wrong bad = rw bad at (sym (first_wrong_turn e w.some l h block at s) ∙ w.same)
 
     pub checking_step :

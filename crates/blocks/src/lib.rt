@@ -222,9 +222,7 @@ fn mend(s: &mut [u8], byte: usize, check: usize, distance: usize, v: u8)
 {
     let old_check = check_at(s, check);
     let old = s[byte];
-    let Ok(new_check) = crc::update(old_check, old, v, distance) else {
-        return;
-    };
+    let new_check = crc::update(old_check, old, v, distance).unwrap();
     s[byte] = v;
     s[check] = (new_check / 256) as u8;
     s[check + 1] = (new_check % 256) as u8;
