@@ -52,15 +52,13 @@ fn first_in(x: usize, r: usize, n: usize) -> usize
     requires { (r ≤ 7) × (r + n ≤ 49) }
     ensures { result ≡ passed (λ j. eqb (x / 2 ^ (48 - j) % 65536) sync_word) r n }
 {
-    let mut j = unmarked(x, r).min(n);
-    while j < n {
+    for j in unmarked(x, r).min(n)..n {
         let below = (48 - (r + j)) as u32;
         if (x >> below) % 65536 == 0x543D {
             return j;
         }
-        j += 1;
     }
-    j
+    n
 }
 
 // How many places of the m from `start` on are tried before the word stands: a window of 64 chips holds up to 49.
@@ -68,6 +66,7 @@ fn scan(s: &[u8], start: usize, m: usize) -> usize
     requires { (m ≤ positions sync_width s.now start) × (length s.now ≤ room_limit) }
     ensures { result ≡ passed (stands_at sync_word sync_width s.now) start m }
 {
+    // a while, since a turn passes over the n places that its window holds
     let mut i: usize = 0;
     while i < m {
         let k = start + i;
@@ -82,6 +81,7 @@ fn scan(s: &[u8], start: usize, m: usize) -> usize
 }
 
 // The search: the start, then each next place, `allowance` positions at most.
+#[tactic(auto, unfolding(crate::specs::SyncSearch::search_for))]
 pub fn search(s: &[u8], start: usize, allowance: usize) -> Result<Found, Refusal>
     ensures { result ≡ search_of s.now start allowance }
 {
@@ -118,6 +118,7 @@ fn kind_for(place: usize, t: usize) -> Result<Kind, Refusal>
 }
 
 // What follows the sync word at `place`: a frame of this kind begins.
+#[tactic(auto, unfolding(crate::specs::Tails::tail_of))]
 pub fn tail_at(s: &[u8], place: usize) -> Result<Kind, Refusal>
     ensures { result ≡ tail_of s.now place }
 {

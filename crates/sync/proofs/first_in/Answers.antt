@@ -35,4 +35,4 @@ pub returns : goal.returns
 returns c =
     let at = c.args in
     let all : c.loop-j.j ≡ at.n = omega arith in
-    rw all (sym (passed_none (stands_in sync_word at.x) at.r at.n (rw all at c.loop-j.invariant.1)))
+    sym (passed_none (stands_in sync_word at.x) at.r at.n (rw all at c.loop-j.invariant.1))

@@ -13,11 +13,11 @@ use Rattle.sync.proofs.scan.Goals as goal
 turn :
     (c : After-first_in-j)
     → let at = c.args in
-    Turn (syncAt at.s.now) at.start at.m c.loop-i.i c.smaller-n.result
+    Turn (syncAt at.s.now) at.start at.m c.loop-i.i c.min-n.result
     c.first_in-j.result
 turn c =
     let at = c.args in
-    let n = c.smaller-n.result in
+    let n = c.min-n.result in
     let k = at.start + c.loop-i.i in
     let window = ap (λ (x : ℕ). passed (stands_in sync_word x) (k % 8) n) c.window.ensures in
     let over = c.first_in-j.ensures ∙ window ∙ passed_window sync_word at.s.now k n (omega arith) in

@@ -8,4 +8,4 @@ pub overflow_cast-result-3 : goal.overflow_cast-result-3
 overflow_cast-result-3 c = omega (arith, leading_le 64 (up (marks c.args.x) c.args.r))
 
 pub returns : goal.returns
-returns c = λ i h inside. unmarked_run c.args.x c.args.r i inside h
+returns c = λ i h inside. unmarked_run c.args.x c.args.r i c.ranges.x.fits inside h
