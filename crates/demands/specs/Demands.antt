@@ -108,21 +108,21 @@ pub record ChipNumbers : Type 0 where
   pub one_word :
       (code : Code) (s : List ℕ) (at : ℕ)
       → Judged Err (rule.word_rule (code_of code) s at) (word_read (code_of code) s at)
-  -- by chipreader::start
+  -- by chipreader::Place::start
   pub making_a_reader :
       (s : List ℕ) (at : ℕ)
       → Judged (λ r. record { at = 0; answer = Some (Err r) }) (rule.reader_rule s at) (start_of s at)
-  -- by chipreader::step, chipreader::first
+  -- by chipreader::Place::step, chipreader::first
   pub reading_a_word :
       (code : Code) (s : List ℕ) (p : Place)
       → Judged (λ r. record { at = p.at; answer = Some (Err r) }) (rule.step_rule (code_of code) s p)
       (step_of (code_of code) s p)
-  -- by chipreader::new
+  -- by chipreader::ChipReader::new
   pub keeping_the_chips :
       (s : Bor (List ℕ)) (at : ℕ)
       → let r = reader_at s (start_of s.now at) in
       (r.chips ≡ s) × (r.place ≡ start_of s.now at)
-  -- by chipreader::next
+  -- by chipreader::ChipReader::next
   pub keeping_its_place :
       (code : Code) (r : ChipReader)
       → ((reader_after (code_of code) r).chips ≡ r.chips)
@@ -318,7 +318,7 @@ pub record Plain : Type 0 where
   pub lengths :
       ((form_of Format.A).shortest ≡ 10) × (((form_of Format.A).longest ≡ 255)
       × (((form_of Format.B).shortest ≡ 10) × ((form_of Format.B).longest ≡ 251)))
-  -- by line::width
+  -- by line::Code::width
   pub widths :
       ((code_of Code.Nrz).chips ≡ 8) × (((code_of Code.ThreeOfSix).chips ≡ 6) × ((code_of Code.Manchester).chips ≡ 2))
 

@@ -61,7 +61,7 @@ abbrev pub word_rule : LineCode → List ℕ → ℕ → Rule (Result ℕ Refusa
 word_rule κ s at = 10 when OutOfRange s at else word_steps κ s at (λ x r. r ≡ Ok x)
 
 -- Chip reader: 10 when made; then 1, 6, its place staying. A reader that was refused answers 10 again (D60). A place
--- outside of the chips is 10 too: a reader never meets this, only `chipreader::step` with a place from elsewhere does.
+-- outside of the chips is 10 too: a reader never meets this, only `Place::step` with a place from elsewhere does.
 abbrev pub reader_rule : List ℕ → ℕ → Rule Place
 reader_rule s at = 10 when OutOfRange s at else accept (λ p. p ≡ record { at = at; answer = None })
 

@@ -42,14 +42,14 @@ fn one_word(code: Code, s: &[u8], at: usize) -> Result<u8, Refusal>
 fn making_a_reader(s: &[u8], at: usize) -> Place
     ensures { Judged (λ why. record { at = 0; answer = Some (Err why) }) (rule.reader_rule s.now at) result }
 {
-    chipreader::start(s, at)
+    Place::start(s, at)
 }
 
 fn reading_a_word(code: Code, s: &[u8], p: Place) -> Place
     ensures { Judged (λ why. record { at = p.at; answer = Some (Err why) })
         (rule.step_rule (code_of code) s.now p) result }
 {
-    chipreader::step(code, s, p)
+    p.step(code, s)
 }
 
 fn first_word(code: Code, s: &[u8], at: usize) -> Place
