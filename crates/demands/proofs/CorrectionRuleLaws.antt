@@ -21,7 +21,7 @@ use Rattle.codewords.specs.Corrections.{id_of, put_corrected, correcting_of, che
 use Rattle.codewords.proofs.UniqueLaws.{corrects_checks, corrects_only}
 use Rattle.demands.specs.Rules.{Rule, given, Judged, JudgedLent}
 use Rattle.demands.specs.CorrectionLadders.{write_rule, check_bytes_rule, announce_rule}
-use Rattle.demands.proofs.RuleLaws.{Follows, judged, judged_lent, taken_bare, passed_bare, follows-lt, follows_unless, never_refused, written_refused}
+use Rattle.demands.proofs.RuleLaws.{Follows, judged, judged_lent, taken_bare, passed_bare, follows-lt, follows_unless, never_refused, unchanged}
 use Rattle.demands.proofs.FrameRuleLaws.{judge_follows}
 use Rattle.demands.proofs.CorrectionCaseLaws.{id_is, is_id}
 
@@ -46,7 +46,7 @@ checks_follow w bytes go = Follows.found (checks_of w) (corrects_checks w bytes)
 
 check_bytes_follow :
     (w : List ℕ) → Bytes w → (d : List ℕ)
-    → Follows (λ r. leaving (Err r) d) (check_bytes_rule w d) (checking_of w d)
+    → Follows (unchanged d) (check_bytes_rule w d) (checking_of w d)
 unfolding checking_of
 check_bytes_follow w bytes d =
     follows-lt 223 (length w) Refusal.TooLong refl refl
@@ -55,11 +55,11 @@ check_bytes_follow w bytes d =
 pub check_bytes_judged :
     (w : List ℕ) → Bytes w → (d : List ℕ) → JudgedLent Err d (check_bytes_rule w d) (checking_of w d)
 check_bytes_judged w bytes d =
-    judged_lent (λ p q e. cc) (λ x r a. never_refused written_refused x r a.1.1) (check_bytes_follow w bytes d)
+    judged_lent (λ x r a. never_refused x r a.1.1) (check_bytes_follow w bytes d)
 
 write_follows :
     (f : Format) (s : List ℕ) → Bytes s → (d : List ℕ)
-    → Follows (λ r. leaving (Err r) d) (write_rule f s d) (correcting_of f s d)
+    → Follows (unchanged d) (write_rule f s d) (correcting_of f s d)
 unfolding correcting_of put_corrected
 write_follows f s bytes d =
     judge_follows (put_corrected s d) (λ r. refl) f s _
@@ -72,4 +72,4 @@ pub write_judged :
     (f : Format) (s : List ℕ) → Bytes s → (d : List ℕ)
     → JudgedLent Err d (write_rule f s d) (correcting_of f s d)
 write_judged f s bytes d =
-    judged_lent (λ p q e. cc) (λ x r a. never_refused written_refused x r a.1.1.1.1) (write_follows f s bytes d)
+    judged_lent (λ x r a. never_refused x r a.1.1.1.1) (write_follows f s bytes d)

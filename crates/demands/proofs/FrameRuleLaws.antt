@@ -29,11 +29,8 @@ use Rattle.frame.proofs.FormatLaws.{true_within}
 use Rattle.demands.specs.Rules.{Rule, ◌when◌else◌, ◌showing◌else◌, given, accept, Judged, JudgedLent}
 use Rattle.demands.specs.Cases.{Announces, NotAllowed, FirstWrongBlock, BadContent}
 use Rattle.demands.specs.Ladders.{update_rule, size_rule, judge_steps, judge_rule, read_rule, change_rule, write_rule}
-use Rattle.demands.proofs.RuleLaws.{Follows, judged, judged_lent, taken_bare, passed_bare, tells-lt, follows-lt, follows_unless, never_refused, written_refused}
+use Rattle.demands.proofs.RuleLaws.{Follows, judged, judged_lent, taken_bare, passed_bare, tells-lt, follows-lt, follows_unless, never_refused, unchanged}
 use Rattle.demands.proofs.CaseLaws.{allowed_announces, announces_allowed, announces_same, first_wrong_block, no_wrong_block, wrong_block_same}
-
-pub frame_refused : {z n : ℕ} (r : Refusal) → Ok (sizes z n) ≡ Err r → ⊥
-frame_refused r e = zero_not_one (cc)
 
 module _ {B : Type 0} {refused : Refusal → B} (told : Result Frame Refusal → B)
     (passes : (r : Refusal) → told (Err r) ≡ refused r) (f : Format) where
@@ -142,7 +139,7 @@ module _ (f : Format) (s : List ℕ) where
       let whole = judge_of-accepted f s e in
       (whole_length whole, whole_frame whole)
 
-  read_follows : (d : List ℕ) → Follows (λ r. leaving (Err r) d) (read_rule f s d) (reading_of f s d)
+  read_follows : (d : List ℕ) → Follows (unchanged d) (read_rule f s d) (reading_of f s d)
   unfolding reading_of taken_out
   read_follows d =
       judge_follows (taken_out f s d) (λ r. refl) f s _
@@ -151,10 +148,10 @@ module _ (f : Format) (s : List ℕ) where
 
   pub read_judged : (d : List ℕ) → JudgedLent Err d (read_rule f s d) (reading_of f s d)
   read_judged d =
-      judged_lent (λ p q e. cc) (λ x r a. never_refused frame_refused x r a.1.1.1.1.1) (read_follows d)
+      judged_lent (λ x r a. never_refused x r a.1.1.1.1.1) (read_follows d)
 
   change_follows :
-      (k b : ℕ) → Follows (λ r. leaving (Err r) s) (change_rule f s k b) (changing_of f s k b)
+      (k b : ℕ) → Follows (unchanged s) (change_rule f s k b) (changing_of f s k b)
   unfolding changing_of set_in
   change_follows k b =
       judge_follows (set_in f s k b) (λ r. refl) f s _
@@ -164,7 +161,7 @@ module _ (f : Format) (s : List ℕ) where
 
   pub change_judged : (k b : ℕ) → JudgedLent Err s (change_rule f s k b) (changing_of f s k b)
   change_judged k b =
-      judged_lent (λ p q e. cc) (λ x r a. never_refused frame_refused x r a.1.1.1.1.1) (change_follows k b)
+      judged_lent (λ x r a. never_refused x r a.1.1.1.1.1) (change_follows k b)
 
 -- 5: what the two tests of a content's length say
 pub content_kept : (f : Format) (n : ℕ) → within (form_of f).shortest (form_of f).longest n ≡ true → BadContent f n → ⊥
@@ -184,7 +181,7 @@ module _ (f : Format) (c d : List ℕ) where
 
   write_follows :
       (t u : Bool) → within (form_of f).shortest (form_of f).longest (length c) ≡ t → ltb (length d) size ≡ u
-      → Follows (λ r. leaving (Err r) d) (write_rule f c d)
+      → Follows (unchanged d) (write_rule f c d)
       (cond t
       (cond u (leaving (Err Refusal.NoRoom) d)
       (record { answer = Ok size; memory = frame_of f c ++ drop size d }))
@@ -200,7 +197,7 @@ module _ (f : Format) (c d : List ℕ) where
 pub write_judged : (f : Format) (c d : List ℕ) → JudgedLent Err d (write_rule f c d) (writing_of f c d)
 unfolding writing_of
 write_judged f c d =
-    judged_lent (λ p q e. cc) (never_refused written_refused)
+    judged_lent never_refused
     (write_follows f c d (within (form_of f).shortest (form_of f).longest (length c))
     (ltb (length d) (frame_size f (length c))) refl refl)
 

@@ -27,7 +27,7 @@ use Rattle.proposals.proofs.ReceivedLaws.{length-received, bytes-received}
 use Rattle.proposals.proofs.ProposalLaws.{corrects_code, code_corrects}
 use Rattle.demands.specs.Rules.{Rule, ◌when◌else◌, given, Judged, JudgedLent}
 use Rattle.demands.specs.MendingLadders.{size_steps, compare_steps, judge_rule, propose_steps, propose_rule}
-use Rattle.demands.proofs.RuleLaws.{Follows, Tells, judged, judged_lent, taken_bare, passed_bare, follows_when, follows-lt, follows_unless, never_refused, written_refused}
+use Rattle.demands.proofs.RuleLaws.{Follows, Tells, judged, judged_lent, taken_bare, passed_bare, follows_when, follows-lt, follows_unless, never_refused, unchanged}
 use Rattle.demands.proofs.FrameRuleLaws.{size_follows}
 
 -- ---- the size: 1, 2, 23, then the rest
@@ -119,7 +119,7 @@ judge_judged f p bytes s =
 -- ---- making a proposal
 
 refused_by :
-    (k : ℕ) (s d : List ℕ) (r : Refusal) → proposing_by k s d (Err r) ≡ leaving (Err r) d
+    (k : ℕ) (s d : List ℕ) (r : Refusal) → proposing_by k s d (Err r) ≡ unchanged d r
 unfolding proposing_by
 refused_by k s d r = refl
 
@@ -132,7 +132,7 @@ nearest_follow k w few most bytes go =
     Follows.found (nearest_of k w) is (λ m also. nearest_only k w few most m (nearest_of k w) also is) go
 
 put_follows : (k z n : ℕ) → k ≤ 16 → z ≤ 223 → (s : List ℕ) → Bytes s → (d : List ℕ)
-    → Follows (λ r. leaving (Err r) d) (propose_steps k z s d) (proposing_by k s d (Ok (sizes z n)))
+    → Follows (unchanged d) (propose_steps k z s d) (proposing_by k s d (Ok (sizes z n)))
 unfolding proposing_by
 put_follows k z n few most s bytes d =
     follows-lt (length s) (z + 34) Refusal.Short refl refl
@@ -142,7 +142,7 @@ put_follows k z n few most s bytes d =
 
 propose_follows :
     (k : ℕ) → k ≤ 16 → (f : Format) (s : List ℕ) → Bytes s → (d : List ℕ)
-    → Follows (λ r. leaving (Err r) d) (propose_rule k f s d) (proposing_of k f s d)
+    → Follows (unchanged d) (propose_rule k f s d) (proposing_of k f s d)
 unfolding proposing_of
 propose_follows k few f s bytes d =
     sized_follows (proposing_by k s d) (refused_by k s d) f s (λ z. propose_steps k z s d)
@@ -152,5 +152,5 @@ pub propose_judged :
     (k : ℕ) → k ≤ 16 → (f : Format) (s : List ℕ) → Bytes s → (d : List ℕ)
     → JudgedLent Err d (propose_rule k f s d) (proposing_of k f s d)
 propose_judged k few f s bytes d =
-    judged_lent (λ p q e. cc) (λ x r a. never_refused written_refused x r a.1.1.1.1)
+    judged_lent (λ x r a. never_refused x r a.1.1.1.1)
     (propose_follows k few f s bytes d)

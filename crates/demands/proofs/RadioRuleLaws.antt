@@ -46,7 +46,7 @@ use Rattle.radio.specs.Heard.{heard_of}
 use Rattle.demands.specs.Rules.{Rule, ◌when◌else◌, ◌showing◌else◌, accept, JudgedLent}
 use Rattle.demands.specs.Cases.{ChipsEnd, FirstNoWord, Announces, FirstWrongBlock}
 use Rattle.demands.specs.Ladders.{frame_steps, receive_rule, manchester_rule, send_rule, tail_steps}
-use Rattle.demands.proofs.RuleLaws.{Follows, judged_lent, taken_bare, passed_bare, tells-lt, follows-lt, follows_unless, never_refused, written_refused}
+use Rattle.demands.proofs.RuleLaws.{Follows, judged_lent, taken_bare, passed_bare, tells-lt, follows-lt, follows_unless, never_refused, unchanged}
 use Rattle.demands.proofs.CaseLaws.{range_kept, range_left, announces_allowed, announces_same}
 use Rattle.demands.proofs.LineRuleLaws.{words_follow}
 use Rattle.demands.proofs.FrameRuleLaws.{size_follows, checks_follow, content_kept, content_left}
@@ -63,8 +63,8 @@ read_words_follow :
     (κ : LineCode) (s : List ℕ) (at n : ℕ) (d : List ℕ) (next : Outcome (Result Reception Refusal)) (rest : Rule (Outcome (Result Reception Refusal)))
     → InBuffer s at
     → (at + chips_in κ n ≤ chip_count s → good_run (value_at κ s at) (words_in κ n) ≡ words_in κ n
-    → Follows (λ r. leaving (Err r) d) rest next)
-    → Follows (λ r. leaving (Err r) d)
+    → Follows (unchanged d) rest next)
+    → Follows (unchanged d)
     (1 when ChipsEnd s (at + chips_in κ n) else 6 showing FirstNoWord κ s at (words_in κ n) else rest)
     (after_words κ s at n d next)
 unfolding after_words
@@ -82,9 +82,6 @@ module _ (k : Kind) (place t : ℕ) (s d : List ℕ) (sync : SyncAt k s place) w
 
   abbrev l : ℕ
   l = length_at (line_of k) s at
-
-  abbrev stays : Refusal → Outcome (Result Reception Refusal)
-  stays r = leaving (Err r) d
 
   -- what becomes of the frame's bytes b, as they were judged
   abbrev from_bytes : List ℕ → Result Frame Refusal → Outcome (Result Reception Refusal)
@@ -130,14 +127,14 @@ module _ (k : Kind) (place t : ℕ) (s d : List ℕ) (sync : SyncAt k s place) w
 
     room_follows :
         first_wrong 1 (spans_of (format_of k) n) bytes ≡ None
-        → Follows stays room_steps (from_bytes bytes (Ok (sizes z n)))
+        → Follows (unchanged d) room_steps (from_bytes bytes (Ok (sizes z n)))
     unfolding taken_out
     room_follows right = by (ltb (length d) n) refl where
       by :
           (u : Bool) → ltb (length d) n ≡ u
           → let o = cond u (leaving (Err Refusal.NoRoom) d)
           (record { answer = Ok (sizes z n); memory = content_in (format_of k) n bytes ++ drop n d }) in
-          Follows stays room_steps (by_frame k place t o.memory o.answer)
+          Follows (unchanged d) room_steps (by_frame k place t o.memory o.answer)
       by true e = taken_bare Refusal.NoRoom (ltb-true (length d) n e) refl refl
       by false e =
           let heard = heard_bytes right in
@@ -146,19 +143,19 @@ module _ (k : Kind) (place t : ℕ) (s d : List ℕ) (sync : SyncAt k s place) w
 
     -- 3, 4, then accepted: what reading the frame's bytes says
     bytes_follow :
-        Follows stays (3 showing FirstWrongBlock (spans_of (format_of k) n) bytes else room_steps)
+        Follows (unchanged d) (3 showing FirstWrongBlock (spans_of (format_of k) n) bytes else room_steps)
         (let o = reading_of (format_of k) bytes d in by_frame k place t o.memory o.answer)
     unfolding reading_of taken_out
     bytes_follow =
         subst
         (λ (x : Result Frame Refusal).
-        Follows stays (3 showing FirstWrongBlock (spans_of (format_of k) n) bytes else room_steps) (from_bytes bytes x))
+        Follows (unchanged d) (3 showing FirstWrongBlock (spans_of (format_of k) n) bytes else room_steps) (from_bytes bytes x))
         (sym judged_bytes)
         (checks_follow (from_bytes bytes) (λ r. refl) (format_of k) n z bytes room_steps
         (omega (arith, length-decoding (line_of k) s at z)) room_follows
         (first_wrong 1 (spans_of (format_of k) n) bytes) refl)
 
-  frame_follows : InBuffer s at → Follows stays (frame_steps k place t s d) (frame_after k place t s d)
+  frame_follows : InBuffer s at → Follows (unchanged d) (frame_steps k place t s d) (frame_after k place t s d)
   unfolding frame_after by_size
   frame_follows within =
       read_words_follow (line_of k) s at 1 d _ _ within
@@ -166,15 +163,11 @@ module _ (k : Kind) (place t : ℕ) (s d : List ℕ) (sync : SyncAt k s place) w
       (λ n announced. read_words_follow (line_of k) s at (frame_size (format_of k) n) d _ _ within
       (λ there words. bytes_follow n announced (record { small = within.small; there = there; words = words }))))
 
-reception_refused :
-    {k : Kind} {place t z n : ℕ} (r : Refusal) → Ok (reception k place t z n) ≡ Err r → ⊥
-reception_refused r e = zero_not_one (cc)
-
 module _ (s d : List ℕ) (start : ℕ) where
   -- a match, its tail told: the frame behind it
   first_follows :
       (a place t : ℕ) → InBuffer s start → FirstAt 0x543D 16 s start a place t
-      → Follows (λ r. leaving (Err r) d) (tail_steps s place (λ k. frame_steps k place t s d))
+      → Follows (unchanged d) (tail_steps s place (λ k. frame_steps k place t s d))
       (by_tail place t s d (tail_of s place))
   unfolding by_tail
   first_follows a place t within first =
@@ -186,7 +179,7 @@ module _ (s d : List ℕ) (start : ℕ) where
       (record { small = within.small; inside = omega (arith, lead_of-le k) }))
 
   receive_follows :
-      (a : ℕ) → Follows (λ r. leaving (Err r) d) (receive_rule s start a d) (reception_of s start a d)
+      (a : ℕ) → Follows (unchanged d) (receive_rule s start a d) (reception_of s start a d)
   unfolding reception_of by_sync
   receive_follows a =
       search_follows (by_sync s d) (λ r. refl) s start a
@@ -194,8 +187,7 @@ module _ (s d : List ℕ) (start : ℕ) where
 
   pub receive_judged : (a : ℕ) → JudgedLent Err d (receive_rule s start a d) (reception_of s start a d)
   receive_judged a =
-      judged_lent (λ p q e. cc)
-      (λ x r w. never_refused reception_refused x r w.1.1.1.1.1.1.1.1.1) (receive_follows a)
+      judged_lent (λ x r w. never_refused x r w.1.1.1.1.1.1.1.1.1) (receive_follows a)
 
   manchester_outside :
       in_range s start ≡ false → manchester_of s start d ≡ leaving (Err Refusal.OutOfRange) d
@@ -205,28 +197,28 @@ module _ (s d : List ℕ) (start : ℕ) where
       (ap (in_range s) (add-zero start) ∙ e)
 
   manchester_follows :
-      Follows (λ r. leaving (Err r) d) (manchester_rule s start d) (manchester_of s start d)
+      Follows (unchanged d) (manchester_rule s start d) (manchester_of s start d)
   manchester_follows = by (in_range s start) refl where
     by : (t : Bool) → in_range s start ≡ t
-        → Follows (λ r. leaving (Err r) d) (manchester_rule s start d) (manchester_of s start d)
+        → Follows (unchanged d) (manchester_rule s start d) (manchester_of s start d)
     by true e =
         passed_bare (range_kept s start e)
         (frame_follows Kind.ManchesterWithA start 0 s d (sync_at_unsearched s start)
         (in_range_true (ap (in_range s) (add-zero start) ∙ e)))
     by false e =
-        subst (Follows (λ r. leaving (Err r) d) (manchester_rule s start d)) (sym (manchester_outside e))
+        subst (Follows (unchanged d) (manchester_rule s start d)) (sym (manchester_outside e))
         (taken_bare Refusal.OutOfRange (range_left s start e) refl refl)
 
   pub manchester_judged : JudgedLent Err d (manchester_rule s start d) (manchester_of s start d)
   manchester_judged =
-      judged_lent (λ p q e. cc) (λ x r w. never_refused reception_refused x r w.1.1.1.1.1) manchester_follows
+      judged_lent (λ x r w. never_refused x r w.1.1.1.1.1) manchester_follows
 
 pub send_judged : (k : Kind) (c d : List ℕ) → JudgedLent Err d (send_rule k c d) (sending_of k c d)
 unfolding sending_of putting
 send_judged k c d =
     let f = format_of k in
     rw (length_frame_of f c)
-    (judged_lent (λ p q e. cc) (never_refused written_refused)
+    (judged_lent never_refused
     (follows_unless (within (form_of f).shortest (form_of f).longest (length c)) Refusal.BadContent
     (content_kept f (length c)) (content_left f (length c)) refl refl
     (λ allowed. follows-lt (length d) (air_size k (frame_size f (length c))) Refusal.NoRoom refl refl
