@@ -1,35 +1,35 @@
 -- The maker's letters (EN 13757-4:2019, 12.5.5).
 --     letters_of_first, -second, -third, -all    the answer by the first part that is no letter, and where there is
 --                                                none
+--     three_equal         the same three letters are the same letter by letter
 --     letters_of_low      numbers with the same 15 low bits have the same letters: the top bit is no part of one
 --     Spelled m x y z    x, y, z are letters, and the 15 low bits of m are theirs, five bits each
 --     letters_of_three    M has the letters x, y, z exactly then
-use mathlib.Core.Path.{◌≡◌, refl, ◌∙◌, sym}
+use mathlib.Core.Path.{◌≡◌, refl, ◌∙◌, sym, ap}
 use mathlib.Core.Logic.{◌↔◌}
 use mathlib.Core.Bool.{Bool, true, false, cond, ◌&&◌}
+use Rattle.std.specs.Prelude.{Option, Some, None}
 use Prim.Native.Nat.{ℕ, ◌+◌, ◌*◌, ◌-◌, ◌%◌, ◌≤◌}
 use native.Mathlib.Omega.{arith}
 use borrow.Author.Tests.{leb-true, le-leb}
 use lib.Dec.{leb}
 use Rattle.ground.proofs.CaseLaws.{and_left, and_right, zero_not_one}
 use Rattle.address.specs.Letters.{first_of, second_of, third_of, is_letter, ascii_of, letters_of}
-use Rattle.address.specs.declared.Spelling.{Spelling}
-use Rattle.address.specs.declared.Spelling.TheVariants.{Three, NoLetters}
 
 module _ (m : ℕ) where
-  pub letters_of_first : is_letter (first_of m) ≡ false → NoLetters ≡ letters_of m
+  pub letters_of_first : is_letter (first_of m) ≡ false → None ≡ letters_of m
   letters_of_first p = rw p
 
-  pub letters_of_second : is_letter (first_of m) ≡ true → is_letter (second_of m) ≡ false → NoLetters ≡ letters_of m
+  pub letters_of_second : is_letter (first_of m) ≡ true → is_letter (second_of m) ≡ false → None ≡ letters_of m
   letters_of_second p q = rw (p, q)
 
   module _ (p : is_letter (first_of m) ≡ true) (q : is_letter (second_of m) ≡ true) where
-    pub letters_of_third : is_letter (third_of m) ≡ false → NoLetters ≡ letters_of m
+    pub letters_of_third : is_letter (third_of m) ≡ false → None ≡ letters_of m
     letters_of_third r = rw (p, q, r)
 
     pub letters_of-all :
         is_letter (third_of m) ≡ true
-        → Three (ascii_of (first_of m)) (ascii_of (second_of m)) (ascii_of (third_of m)) ≡ letters_of m
+        → Some (ascii_of (first_of m), ascii_of (second_of m), ascii_of (third_of m)) ≡ letters_of m
     letters_of-all r = rw (p, q, r)
 
 pub letters_of_low : (m k : ℕ) → m % 32768 ≡ k % 32768 → letters_of m ≡ letters_of k
@@ -56,9 +56,15 @@ low_parts : (m : ℕ) → m % 32768 ≡ first_of m * 1024 + second_of m * 32 + t
 low_parts m = omega arith
 
 cond_three :
-    (b : Bool) {u : Spelling} {x y z : ℕ} → cond b u NoLetters ≡ Three x y z → (b ≡ true) × (u ≡ Three x y z)
+    (b : Bool) {u : Option (ℕ × ℕ × ℕ)} {x y z : ℕ} → cond b u None ≡ Some (x, y, z) → (b ≡ true) × (u ≡ Some (x, y, z))
 cond_three true e = (refl, e)
 cond_three false e = absurd (zero_not_one (cc))
+
+pub three_equal :
+    {a b c x y z : ℕ} → ◌≡◌ {A = Option (ℕ × ℕ × ℕ)} (Some (a, b, c)) (Some (x, y, z)) → (a ≡ x) × (b ≡ y) × (c ≡ z)
+three_equal {a} {b} {c} {x} {y} {z} e =
+    let t : ◌≡◌ {A = ℕ × ℕ × ℕ} (a, b, c) (x, y, z) = cc in
+    (ap (λ (t : ℕ × ℕ × ℕ). t.0) t, ap (λ (t : ℕ × ℕ × ℕ). t.1) t, ap (λ (t : ℕ × ℕ × ℕ). t.2) t)
 
 -- each part of m is a letter, and x, y, z are their ASCII bytes
 record LetterParts (m x y z : ℕ) : Type 0 where
@@ -67,17 +73,17 @@ record LetterParts (m x y z : ℕ) : Type 0 where
   third : (1 ≤ third_of m) × (third_of m ≤ 26) × (z ≡ third_of m + 64)
 
 module _ {m x y z : ℕ} where
-  three_parts : letters_of m ≡ Three x y z → LetterParts m x y z
+  three_parts : letters_of m ≡ Some (x, y, z) → LetterParts m x y z
   three_parts e =
       let given = cond_three (is_letter (first_of m) && (is_letter (second_of m) && is_letter (third_of m))) e in
       let rest = and_right (is_letter (first_of m)) _ given.0 in
       let p = is_letter_bounds (first_of m) (and_left _ _ given.0) in
       let q = is_letter_bounds (second_of m) (and_left _ _ rest) in
       let r = is_letter_bounds (third_of m) (and_right (is_letter (second_of m)) _ rest) in
-      let e = given.1 in
-      record { first = (p.0, p.1, cc); second = (q.0, q.1, cc); third = (r.0, r.1, cc) }
+      let e = three_equal given.1 in
+      record { first = (p.0, p.1, sym e.0); second = (q.0, q.1, sym e.1); third = (r.0, r.1, sym e.2) }
 
-  parts_three : LetterParts m x y z → letters_of m ≡ Three x y z
+  parts_three : LetterParts m x y z → letters_of m ≡ Some (x, y, z)
   parts_three t =
       sym (letters_of-all m
       (is_letter-le (first_of m) t.first.0 t.first.1)
@@ -102,5 +108,5 @@ module _ {m x y z : ℕ} where
         third = (omega arith, omega arith, omega arith);
       }
 
-pub letters_of_three : (m x y z : ℕ) → letters_of m ≡ Three x y z ↔ Spelled m x y z
+pub letters_of_three : (m x y z : ℕ) → letters_of m ≡ Some (x, y, z) ↔ Spelled m x y z
 letters_of_three m x y z = (λ e. parts_spelled (three_parts e), λ s. parts_three (spelled_parts s))

@@ -7,8 +7,7 @@ use lib.ListN.{replicate}
 use Rattle.address.specs.Makers.{maker_of}
 use Rattle.address.specs.Names.{name_at, name_of, name_bytes}
 use Rattle.address.specs.declared.Maker.{Maker}
-use Rattle.address.specs.declared.Spelling.{Spelling}
-use Rattle.address.specs.declared.Spelling.TheVariants.{Three, NoLetters}
+use Rattle.std.specs.Prelude.{Option, Some, None}
 use Rattle.address.specs.declared.Reach.{Reach}
 use Rattle.address.specs.declared.Reach.TheVariants.{Hard, Soft}
 
@@ -20,11 +19,11 @@ numbers =
     0x0443 ∷ 0x0CAE ∷ 0x0421 ∷ 0x6B5A
     ∷ 0x0043 ∷ 0x6C21 ∷ 0x0403 ∷ 0x0761 ∷ 0x0440 ∷ 0x6B5B ∷ 0x0000 ∷ 0x7FFF ∷ []
 
-abbrev spellings : List Spelling
-spellings = Three 65 66 67 ∷ Three 67 69 78 ∷ Three 65 65 65 ∷ Three 90 90 90 ∷ replicate 8 NoLetters
+abbrev spellings : List (Option (ℕ × ℕ × ℕ))
+spellings = Some (65, 66, 67) ∷ Some (67, 69, 78) ∷ Some (65, 65, 65) ∷ Some (90, 90, 90) ∷ replicate 8 None
 
 abbrev makers : Reach → List Maker
-makers r = map (λ (l : Spelling). record { spelled = l; reach = r }) spellings
+makers r = map (λ (l : Option (ℕ × ℕ × ℕ)). record { spelled = l; reach = r }) spellings
 
 pub maker_of_worked : map maker_of numbers ≡ makers Hard
 maker_of_worked = refl

@@ -4,9 +4,7 @@
 --     ascii_of v       the letter's ASCII byte (ISO/IEC 646): 41h for 1 to 5Ah for 26
 --     letters_of m     the three letters, or that M has none: an answer of its own, no refusal
 -- What the top bit says: specs/Makers.
-use Rattle.std.specs.Prelude.{Bool, cond, ◌&&◌, ℕ, ◌+◌, ◌/◌, ◌%◌, leb}
-use Rattle.address.specs.declared.Spelling.{Spelling}
-use Rattle.address.specs.declared.Spelling.TheVariants.{Three, NoLetters}
+use Rattle.std.specs.Prelude.{Bool, cond, ◌&&◌, ℕ, ◌+◌, ◌/◌, ◌%◌, leb, Option, Some, None}
 
 abbrev pub first_of : ℕ → ℕ
 first_of m = m / 1024 % 32
@@ -23,8 +21,8 @@ is_letter v = leb 1 v && leb v 26
 abbrev pub ascii_of : ℕ → ℕ
 ascii_of v = v + 64
 
-abbrev pub letters_of : ℕ → Spelling
+abbrev pub letters_of : ℕ → Option (ℕ × ℕ × ℕ)
 letters_of m =
     cond (is_letter (first_of m) && (is_letter (second_of m) && is_letter (third_of m)))
-    (Three (ascii_of (first_of m)) (ascii_of (second_of m)) (ascii_of (third_of m)))
-    NoLetters
+    (Some (ascii_of (first_of m), ascii_of (second_of m), ascii_of (third_of m)))
+    None

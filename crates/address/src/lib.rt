@@ -10,33 +10,27 @@ ghost use Rattle.address.specs.Makers.{reach_of, maker_of};
 ghost use Rattle.address.specs.Names.{two_at, name_bytes, name_at};
 ghost use Rattle.address.specs.Keys.{four_at, four_bytes, key_at, key_bytes};
 
-// Three letters as ASCII bytes, 'A' to 'Z', or none.
-#[derive(Clone, Copy)]
-pub enum Spelling {
-    Three(u8, u8, u8),
-    NoLetters,
-}
-
 // How far an address is unique: worldwide, or at least within radio range.
-#[derive(Clone, Copy)]
+#[derive(Clone, Copy, Debug, PartialEq, Eq)]
 pub enum Reach {
     Hard,
     Soft,
 }
 
-// What M says: letters or none, and hard or soft in both cases.
-#[derive(Clone, Copy)]
+// What M says: three letters as ASCII bytes, 'A' to 'Z', or none, and hard or soft in both cases.
+#[derive(Clone, Copy, Debug, PartialEq, Eq)]
 pub struct Maker {
-    pub spelled: Spelling,
+    pub spelled: Option<(u8, u8, u8)>,
     pub reach: Reach,
 }
 
-// A: six bytes as they are sent. No array, since an answer could not carry it.
-#[derive(Clone, Copy)]
+// A: six bytes as they are sent. No array: a proof takes an array for a list of any length, and `name_at_append` of
+// proofs/NameLaws, that a name is read where it was written, holds of every value of this type.
+#[derive(Clone, Copy, Debug, PartialEq, Eq)]
 pub struct Address(pub u8, pub u8, pub u8, pub u8, pub u8, pub u8);
 
 // M and A.
-#[derive(Clone, Copy)]
+#[derive(Clone, Copy, Debug, PartialEq, Eq)]
 pub struct Name {
     pub m: u16,
     pub a: Address,
@@ -49,22 +43,17 @@ fn is_letter(v: u16) -> bool
 }
 
 // The letters of M (12.5.5): five bits each, below the top bit.
-fn letters(m: u16) -> Spelling
+fn letters(m: u16) -> Option<(u8, u8, u8)>
     ensures { result ≡ letters_of m }
 {
     let first = m / 1024 % 32;
     let second = m / 32 % 32;
     let third = m % 32;
-    if !is_letter(first) {
-        return Spelling::NoLetters;
+    if is_letter(first) && is_letter(second) && is_letter(third) {
+        Some(((first + 64) as u8, (second + 64) as u8, (third + 64) as u8))
+    } else {
+        None
     }
-    if !is_letter(second) {
-        return Spelling::NoLetters;
-    }
-    if !is_letter(third) {
-        return Spelling::NoLetters;
-    }
-    Spelling::Three((first + 64) as u8, (second + 64) as u8, (third + 64) as u8)
 }
 
 // What the top bit of M says of the address (12.5.5).

@@ -28,15 +28,15 @@ fn read_full<R: Read>(input: &mut R, buffer: &mut [u8]) -> io::Result<usize>
     Ok(done)
 }
 
-fn print_line(rt: &impl Print, index: usize, channel: usize, hz: u64) -> io::Result<()> {
-    println!(rt; "{index} {channel} {hz}")
+fn print_line(rt: &impl Print, line: Line) -> io::Result<()> {
+    println!(rt; "{} {} {}", line.index, line.channel, line.hertz)
 }
 
-fn print_band(rt: &impl Print, band: Band) -> io::Result<()> {
+fn print_band(rt: &impl Print, band: Option<Band>) -> io::Result<()> {
     println!(rt; "index channel hz")?;
     for k in 0..channels::lines_of(band) {
-        if let Line::Channel(index, channel, hz) = channels::line_at(band, k) {
-            print_line(rt, index, channel, hz)?;
+        if let Some(line) = channels::line_at(band, k) {
+            print_line(rt, line)?;
         }
     }
     Ok(())
@@ -47,7 +47,7 @@ fn main(rt: HostRuntime) -> io::Result<()> {
     let mut buffer = [0u8; 3];
     let n = read_full(&mut rt.stdin(), &mut buffer)?;
     let band = channels::band_of(&buffer[..n]);
-    if let Band::NoSuch = band {
+    if band.is_none() {
         println!(rt; "no such band")
     } else {
         print_band(&rt, band)

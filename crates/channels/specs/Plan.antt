@@ -3,12 +3,10 @@
 --     row_of i          the row of index i: first centre, spacing, tolerance; three zeros where there is none (D50)
 --     centre_of i c     the centre of channel c of index i, or that there is no such channel
 -- Assumes nothing.
-use Rattle.std.specs.Prelude.{false, cond, ℕ, ltb, Float}
+use Rattle.std.specs.Prelude.{false, cond, ℕ, ltb, Float, Option, Some, None}
 use Rattle.std.specs.Float.{binary64}
 use Rattle.std.specs.Float.Ieee.{round}
 use Rattle.channels.specs.declared.plan.Row.{Row}
-use Rattle.channels.specs.declared.plan.Centre.{Centre}
-use Rattle.channels.specs.declared.plan.Centre.TheVariants.{At, NoSuch}
 use Rattle.channels.specs.Table21.{entry_of, channels_of, quarters_of}
 
 unfoldable pub float : ℕ → Float
@@ -22,5 +20,5 @@ row_of i =
       tolerance = float (entry_of i).tolerance;
     }
 
-abbrev pub centre_of : ℕ → ℕ → Centre
-centre_of i c = cond (ltb c (channels_of i)) (At (float (quarters_of i c))) NoSuch
+abbrev pub centre_of : ℕ → ℕ → Option Float
+centre_of i c = cond (ltb c (channels_of i)) (Some (float (quarters_of i c))) None

@@ -7,4 +7,4 @@ mod plan; // plan.rt: the row and the centre of an index and channel
 mod listing; // listing.rt: the lines of a band
 
 pub use listing::{Band, Line, Rows, band_of, line_at, lines_of, rows_of};
-pub use plan::{Centre, Row, centre_of, channels_of, row_at};
+pub use plan::{Row, centre_of, channels_of, row_at};

@@ -4,45 +4,44 @@ ghost use Rattle.channels.specs.Listing.{letter_of, band_of, rows_of, lines_of, 
 
 use crate::plan::{channels_of, hertz_in};
 
-// What an input names.
-#[derive(Clone, Copy)]
+#[derive(Clone, Copy, Debug, PartialEq, Eq)]
 pub enum Band {
     A,
     B,
     C,
     D,
-    NoSuch,
 }
 
 // The indices of a band.
-#[derive(Clone, Copy)]
+#[derive(Clone, Copy, Debug, PartialEq, Eq)]
 pub struct Rows {
     pub first: usize,
     pub count: usize,
 }
 
-// A line of a band's list: index, channel, centre in hertz.
-#[derive(Clone, Copy)]
-pub enum Line {
-    Channel(usize, usize, u64),
-    End,
+// A line of a band's list; the centre in hertz.
+#[derive(Clone, Copy, Debug, PartialEq, Eq)]
+pub struct Line {
+    pub index: usize,
+    pub channel: usize,
+    pub hertz: u64,
 }
 
 // The band that a letter names.
-fn letter_of(x: u8) -> Band
+fn letter_of(x: u8) -> Option<Band>
     ensures { result ≡ letter_of x }
 {
     match x {
-        b'A' => Band::A,
-        b'B' => Band::B,
-        b'C' => Band::C,
-        b'D' => Band::D,
-        _ => Band::NoSuch,
+        b'A' => Some(Band::A),
+        b'B' => Some(Band::B),
+        b'C' => Some(Band::C),
+        b'D' => Some(Band::D),
+        _ => None,
     }
 }
 
 // The band that an input names: one capital letter, with at most one line feed after it.
-pub fn band_of(input: &[u8]) -> Band
+pub fn band_of(input: &[u8]) -> Option<Band>
     ensures { result ≡ band_of input.now }
 {
     if input.len() == 1 {
@@ -53,55 +52,56 @@ pub fn band_of(input: &[u8]) -> Band
             return letter_of(input[0]);
         }
     }
-    Band::NoSuch
+    None
 }
 
 // The indices of a band, as Table 21 groups them.
-pub fn rows_of(band: Band) -> Rows
+pub fn rows_of(band: Option<Band>) -> Rows
     ensures { result ≡ rows_of band }
 {
     match band {
-        Band::A => Rows { first: 1, count: 4 },
-        Band::B => Rows { first: 5, count: 2 },
-        Band::C => Rows { first: 7, count: 3 },
-        Band::D => Rows {
+        Some(Band::A) => Rows { first: 1, count: 4 },
+        Some(Band::B) => Rows { first: 5, count: 2 },
+        Some(Band::C) => Rows { first: 7, count: 3 },
+        Some(Band::D) => Rows {
             first: 10,
             count: 4,
         },
-        Band::NoSuch => Rows { first: 0, count: 0 },
+        None => Rows { first: 0, count: 0 },
     }
 }
 
 // How many lines a band's list has.
-pub fn lines_of(band: Band) -> usize
+pub fn lines_of(band: Option<Band>) -> usize
     ensures { result ≡ length (lines_of band) }
 {
     match band {
-        Band::A => 19,
-        Band::B => 2,
-        Band::C => 24,
-        Band::D => 58,
-        Band::NoSuch => 0,
+        Some(Band::A) => 19,
+        Some(Band::B) => 2,
+        Some(Band::C) => 24,
+        Some(Band::D) => 58,
+        None => 0,
     }
 }
 
 // Line k of a band's list, from 0.
-pub fn line_at(band: Band, k: usize) -> Line
+pub fn line_at(band: Option<Band>, k: usize) -> Option<Line>
     ensures { result ≡ line_at band k }
 {
     let rows = rows_of(band);
     // the band's indices one after the other; `channel` counts from the first channel of `index`
-    let mut index = rows.first;
-    let mut left = rows.count;
     let mut channel = k;
-    while 0 < left {
+    for index in rows.first..rows.first + rows.count {
         let channels = channels_of(index);
         if channel < channels {
-            return Line::Channel(index, channel, hertz_in(index, channel));
+            let hertz = hertz_in(index, channel);
+            return Some(Line {
+                index,
+                channel,
+                hertz,
+            });
         }
         channel -= channels;
-        index += 1;
-        left -= 1;
     }
-    Line::End
+    None
 }

@@ -13,13 +13,6 @@ pub struct Row {
     pub tolerance: f64,
 }
 
-// A centre frequency in kilohertz.
-#[derive(Clone, Copy)]
-pub enum Centre {
-    At(f64),
-    NoSuch,
-}
-
 // The row of an index; three zeros where there is none.
 pub fn row_at(index: usize) -> Row
     ensures { result ≡ row_of index }
@@ -63,13 +56,13 @@ pub(crate) fn hertz_in(index: usize, channel: usize) -> u64
     (centre_in(index, channel) * 1000.0) as u64
 }
 
-// The centre of a channel, in kilohertz.
-pub fn centre_of(index: usize, channel: usize) -> Centre
+// The centre of a channel, in kilohertz, if there is such a channel.
+pub fn centre_of(index: usize, channel: usize) -> Option<f64>
     ensures { result ≡ centre_of index channel }
 {
     if channel < channels_of(index) {
-        Centre::At(centre_in(index, channel))
+        Some(centre_in(index, channel))
     } else {
-        Centre::NoSuch
+        None
     }
 }

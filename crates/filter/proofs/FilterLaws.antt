@@ -15,22 +15,22 @@ use native.Mathlib.Omega.{arith}
 use borrow.Author.Tests.{ltb-false, ltb-true, lt-ltb, le-ltb}
 use lib.Dec.{ltb}
 use lib.ListN.{length, take, drop}
+use Rattle.std.specs.Prelude.{Result, Ok, Err}
+use Rattle.answers.specs.declared.Refusal.{Refusal}
 use Rattle.answers.specs.declared.Refusal.TheVariants.{OutOfRange, BadContent}
 use Rattle.address.specs.Names.{name_of}
 use Rattle.filter.specs.Listed.{listed, verdict_of}
-use Rattle.filter.specs.declared.Verdict.{Verdict}
-use Rattle.filter.specs.declared.Verdict.TheVariants.{Wanted, Unwanted, Refused}
 use Rattle.filter.proofs.ListedLaws.{InUse, in_use_listed, listed_in_use}
 
 pub verdict_of_judged :
     (es : List (List ℕ)) (n : ℕ) (s : List ℕ) → n ≤ 16 → 9 ≤ length s
-    → verdict_of es n s ≡ cond (listed (name_of s) (take n es)) Wanted Unwanted
+    → verdict_of es n s ≡ Ok (listed (name_of s) (take n es))
 verdict_of_judged es n s p q = rw (le-ltb 16 n p, le-ltb (length s) 9 q)
 
 pub verdict_of_rest :
     (es : List (List ℕ)) (n k : ℕ) (s : List ℕ) {t : Bool} → n ≤ 16 → 9 ≤ length s
     → listed (name_of s) (drop k (take n es)) ≡ listed (name_of s) (take n es)
-    → listed (name_of s) (drop k (take n es)) ≡ t → cond t Wanted Unwanted ≡ verdict_of es n s
+    → listed (name_of s) (drop k (take n es)) ≡ t → Ok t ≡ verdict_of es n s
 verdict_of_rest es n k s p q rest e = sym (verdict_of_judged es n s p q ∙ rw (sym rest ∙ e))
 
 pub record Meant (es : List (List ℕ)) (n : ℕ) (s : List ℕ) : Type 0 where
@@ -39,11 +39,11 @@ pub record Meant (es : List (List ℕ)) (n : ℕ) (s : List ℕ) : Type 0 where
   pub entry : InUse es n (name_of s)
 
 -- four grounds, so that no other refusal is ever given
-pub data VerdictGrounds (es : List (List ℕ)) (n : ℕ) (s : List ℕ) : Verdict → Type 0 where
-  over : 16 < n → VerdictGrounds es n s (Refused OutOfRange)
-  short : n ≤ 16 → length s < 9 → VerdictGrounds es n s (Refused BadContent)
-  found : n ≤ 16 → 9 ≤ length s → listed (name_of s) (take n es) ≡ true → VerdictGrounds es n s Wanted
-  missed : n ≤ 16 → 9 ≤ length s → listed (name_of s) (take n es) ≡ false → VerdictGrounds es n s Unwanted
+pub data VerdictGrounds (es : List (List ℕ)) (n : ℕ) (s : List ℕ) : Result Bool Refusal → Type 0 where
+  over : 16 < n → VerdictGrounds es n s (Err OutOfRange)
+  short : n ≤ 16 → length s < 9 → VerdictGrounds es n s (Err BadContent)
+  found : n ≤ 16 → 9 ≤ length s → listed (name_of s) (take n es) ≡ true → VerdictGrounds es n s (Ok true)
+  missed : n ≤ 16 → 9 ≤ length s → listed (name_of s) (take n es) ≡ false → VerdictGrounds es n s (Ok false)
 
 module _ (es : List (List ℕ)) (n : ℕ) (s : List ℕ) where
   pub verdict_of_grounds : VerdictGrounds es n s (verdict_of es n s)
@@ -51,48 +51,48 @@ module _ (es : List (List ℕ)) (n : ℕ) (s : List ℕ) where
     where
       by_tests :
           (a b c : Bool) → ltb 16 n ≡ a → ltb (length s) 9 ≡ b → listed (name_of s) (take n es) ≡ c
-          → VerdictGrounds es n s (cond a (Refused OutOfRange) (cond b (Refused BadContent) (cond c Wanted Unwanted)))
+          → VerdictGrounds es n s (cond a (Err OutOfRange) (cond b (Err BadContent) (Ok c)))
       by_tests true b c p q r = over (ltb-true 16 n p)
       by_tests false true c p q r = short (ltb-false 16 n p) (ltb-true (length s) 9 q)
       by_tests false false true p q r = found (ltb-false 16 n p) (ltb-false (length s) 9 q) r
       by_tests false false false p q r = missed (ltb-false 16 n p) (ltb-false (length s) 9 q) r
 
-  verdict_grounds : {v : Verdict} → verdict_of es n s ≡ v → VerdictGrounds es n s v
+  verdict_grounds : {v : Result Bool Refusal} → verdict_of es n s ≡ v → VerdictGrounds es n s v
   verdict_grounds e = subst (VerdictGrounds es n s) e verdict_of_grounds
 
-  pub verdict_of_out_of_range : verdict_of es n s ≡ Refused OutOfRange ↔ 16 < n
+  pub verdict_of_out_of_range : verdict_of es n s ≡ Err OutOfRange ↔ 16 < n
   verdict_of_out_of_range = (λ e. there (verdict_grounds e), λ h. rw (lt-ltb 16 n h))
     where
-      there : VerdictGrounds es n s (Refused OutOfRange) → 16 < n
+      there : VerdictGrounds es n s (Err OutOfRange) → 16 < n
       there (over h) = h
 
-  pub verdict_of_bad-content : verdict_of es n s ≡ Refused BadContent ↔ ((n ≤ 16) × (length s < 9))
+  pub verdict_of_bad-content : verdict_of es n s ≡ Err BadContent ↔ ((n ≤ 16) × (length s < 9))
   verdict_of_bad-content =
       (λ e. there (verdict_grounds e), λ m. rw (le-ltb 16 n m.0, lt-ltb (length s) 9 m.1))
     where
-      there : VerdictGrounds es n s (Refused BadContent) → (n ≤ 16) × (length s < 9)
+      there : VerdictGrounds es n s (Err BadContent) → (n ≤ 16) × (length s < 9)
       there (short p q) = (p, q)
 
   module _ (whole : length es ≡ 16) where
-    meant_wanted : Meant es n s → verdict_of es n s ≡ Wanted
+    meant_wanted : Meant es n s → verdict_of es n s ≡ Ok true
     meant_wanted m =
         verdict_of_judged es n s m.counted m.long ∙ rw (in_use_listed es n (name_of s) (omega arith) m.entry)
 
-    pub verdict_of_wanted : verdict_of es n s ≡ Wanted ↔ Meant es n s
+    pub verdict_of_wanted : verdict_of es n s ≡ Ok true ↔ Meant es n s
     verdict_of_wanted = (λ e. there (verdict_grounds e), meant_wanted)
       where
-        there : VerdictGrounds es n s Wanted → Meant es n s
+        there : VerdictGrounds es n s (Ok true) → Meant es n s
         there (found p q r) = record { counted = p; long = q; entry = listed_in_use es n (name_of s) (omega arith) r }
 
-    unlisted_unwanted : (n ≤ 16) × (9 ≤ length s) × (InUse es n (name_of s) → ⊥) → verdict_of es n s ≡ Unwanted
+    unlisted_unwanted : (n ≤ 16) × (9 ≤ length s) × (InUse es n (name_of s) → ⊥) → verdict_of es n s ≡ Ok false
     unlisted_unwanted m =
         let few : n ≤ 16 = m.0 in
         verdict_of_judged es n s few m.1
         ∙ rw ((not-eq-not {b = false}).0 (λ e. m.2 (listed_in_use es n (name_of s) (omega arith) e)))
 
     pub verdict_of_unwanted :
-        verdict_of es n s ≡ Unwanted ↔ ((n ≤ 16) × (9 ≤ length s) × (InUse es n (name_of s) → ⊥))
+        verdict_of es n s ≡ Ok false ↔ ((n ≤ 16) × (9 ≤ length s) × (InUse es n (name_of s) → ⊥))
     verdict_of_unwanted = (λ e. there (verdict_grounds e), unlisted_unwanted)
       where
-        there : VerdictGrounds es n s Unwanted → (n ≤ 16) × (9 ≤ length s) × (InUse es n (name_of s) → ⊥)
+        there : VerdictGrounds es n s (Ok false) → (n ≤ 16) × (9 ≤ length s) × (InUse es n (name_of s) → ⊥)
         there (missed p q r) = (p, q, λ u. false≢true (sym r ∙ in_use_listed es n (name_of s) (omega arith) u))

@@ -12,14 +12,15 @@ use Prim.Native.Nat.{ℕ, ◌≤◌}
 use native.Mathlib.Omega.{arith}
 use borrow.Author.Tests.{le-ltb}
 use lib.ListN.{length, get_or, take, drop, length-append, take-append-drop}
-use Rattle.answers.specs.declared.Written.TheVariants as written
+use Rattle.std.specs.Prelude.{Result, Ok}
+use Rattle.answers.specs.Outcome.{leaving}
+use Rattle.answers.specs.declared.Refusal.{Refusal}
 use Rattle.ground.specs.Bytes.{Bytes}
 use Rattle.header.specs.Layout.{addressed, secured, header_length, session_part, header_bytes}
 use Rattle.header.specs.HeaderReads.{trimmed, header_in, header_reading_of}
 use Rattle.header.specs.HeaderWrites.{header_writing_of}
 use Rattle.header.specs.declared.layout.HeaderKind.{HeaderKind}
 use Rattle.header.specs.declared.layout.Header.{Header}
-use Rattle.header.specs.declared.reading.HeaderReading.TheVariants.{Accepted}
 use Rattle.header.proofs.LayoutLaws.{opening, length-header_bytes}
 use Rattle.header.proofs.FieldLaws.{header_equal, header_in-opening, header_bytes-header_in}
 use Rattle.header.proofs.HeaderReadsLaws.{header_reading_of_named, header_reading_as-le, header_kind_of_ci_of, header_kind_of_is, header_reading_of_whole}
@@ -33,15 +34,15 @@ header_length-append : (h : Header) (t : List ℕ) → header_length h.kind ≤ 
 header_length-append h t = omega (arith, length-append (header_bytes h) t, length-header_bytes h)
 
 pub header_reading_of-header_bytes :
-    (h : Header) (t : List ℕ) → header_reading_of (header_bytes h ++ t) ≡ Accepted (trimmed h) (header_length h.kind)
+    (h : Header) (t : List ℕ) → header_reading_of (header_bytes h ++ t) ≡ Ok (trimmed h, header_length h.kind)
 header_reading_of-header_bytes h t =
     header_reading_of_named (header_bytes h ++ t) (λ e. omega arith) (header_kind_of_ci_of h.kind)
     ∙ header_reading_as-le (header_bytes h ++ t) h.kind (header_length-append h t)
-    ∙ ap (λ (x : Header). Accepted x (header_length h.kind)) (header_in-header_bytes h t)
+    ∙ ap (λ (x : Header). let r : Result (Header × ℕ) Refusal = Ok (x, header_length h.kind) in r) (header_in-header_bytes h t)
 
 pub header_read_write :
     (h : Header) (d : List ℕ) → header_length h.kind ≤ length d
-    → header_reading_of (header_writing_of h d).memory ≡ Accepted (trimmed h) (header_length h.kind)
+    → header_reading_of (header_writing_of h d).memory ≡ Ok (trimmed h, header_length h.kind)
 header_read_write h d fits =
     rw (le-ltb (length d) (header_length h.kind) fits)
     (header_reading_of-header_bytes h (drop (header_length h.kind) d))
@@ -60,7 +61,7 @@ trimmed-header_in k s =
     header_equal k (get_or s 1 0) (get_or s 2 0) (cond_twice (addressed k) _ _) (cond_twice (secured k) _ _)
 
 module _ (s : List ℕ) (bytes : Bytes s) (h : Header) (n : ℕ) where
-  accepted_starts : header_reading_of s ≡ Accepted h n → Starts s h n
+  accepted_starts : header_reading_of s ≡ Ok (h, n) → Starts s h n
   accepted_starts e =
       let w = header_reading_of_whole s e in
       let k = w.kind in
@@ -69,17 +70,17 @@ module _ (s : List ℕ) (bytes : Bytes s) (h : Header) (n : ℕ) where
       (subst (λ (m : ℕ). Starts s (header_in k s) m) w.size
       (record { shown = trimmed-header_in k s; size = refl; sent = sym (header_bytes-header_in s bytes k ci w.fits) }))
 
-  starts_accepted : Starts s h n → header_reading_of s ≡ Accepted h n
+  starts_accepted : Starts s h n → header_reading_of s ≡ Ok (h, n)
   starts_accepted m =
       ap header_reading_of (sym (take-append-drop n s) ∙ ap (λ (b : List ℕ). b ++ drop n s) m.sent)
       ∙ header_reading_of-header_bytes h (drop n s) ∙ rw (m.shown, m.size)
 
-  pub header_reading_of_accepts : header_reading_of s ≡ Accepted h n ↔ Starts s h n
+  pub header_reading_of_accepts : header_reading_of s ≡ Ok (h, n) ↔ Starts s h n
   header_reading_of_accepts = (accepted_starts, starts_accepted)
 
   pub header_write_read :
-      (d : List ℕ) → header_reading_of s ≡ Accepted h n → n ≤ length d
-      → header_writing_of h d ≡ record { answer = written.Accepted n; memory = take n s ++ drop n d }
+      (d : List ℕ) → header_reading_of s ≡ Ok (h, n) → n ≤ length d
+      → header_writing_of h d ≡ leaving (Ok n) (take n s ++ drop n d)
   header_write_read d e fits =
       let m = accepted_starts e in
       let room : header_length h.kind ≤ length d = omega (arith, m.size) in

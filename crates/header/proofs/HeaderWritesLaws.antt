@@ -9,10 +9,9 @@ use native.Mathlib.Omega.{arith}
 use borrow.Author.Tests.{lt-ltb, le-ltb}
 use lib.ListN.{length, drop}
 use lib.Seq.{sets}
-use Rattle.answers.specs.Outcome.{Outcome}
+use Rattle.std.specs.Prelude.{Ok, Err}
+use Rattle.answers.specs.Outcome.{leaving}
 use Rattle.answers.specs.declared.Refusal.TheVariants.{NoRoom}
-use Rattle.answers.specs.declared.Written.{Written}
-use Rattle.answers.specs.declared.Written.TheVariants.{Accepted, Refused}
 use Rattle.ground.proofs.StoresLaws.{sets_then, sets_start}
 use Rattle.header.specs.Layout.{ci_of, receiver_place, session_place, header_length, receiver_part, session_part, header_bytes}
 use Rattle.header.specs.HeaderWrites.{header_writing_of}
@@ -44,11 +43,11 @@ module _ (h : Header) (d : List ℕ) where
 
   pub header_writing_of-lt :
       length d < header_length h.kind
-      → ◌≡◌ {A = Outcome Written} (record { answer = Refused NoRoom; memory = d }) (header_writing_of h d)
+      → leaving (Err NoRoom) d ≡ header_writing_of h d
   header_writing_of-lt short = rw (lt-ltb (length d) (header_length h.kind) short)
 
   pub header_writing_of-le :
       {a : ℕ} {m : List ℕ} → header_length h.kind ≤ length d → a ≡ header_length h.kind
       → m ≡ header_bytes h ++ drop (header_length h.kind) d
-      → ◌≡◌ {A = Outcome Written} (record { answer = Accepted a; memory = m }) (header_writing_of h d)
+      → leaving (Ok a) m ≡ header_writing_of h d
   header_writing_of-le fits p q = rw (le-ltb (length d) (header_length h.kind) fits, p, q)

@@ -17,8 +17,8 @@ use Rattle.header.specs.AccessBits.{access_of}
 use Rattle.header.specs.declared.layout.Header.{Header}
 use Rattle.header.specs.declared.layout.HeaderKind.{HeaderKind}
 use Rattle.header.specs.declared.layout.HeaderKind.TheVariants.{Plain, Secured, Addressed, AddressedSecured}
-use Rattle.header.specs.declared.reading.HeaderReading.{HeaderReading}
-use Rattle.header.specs.declared.reading.HeaderReading.TheVariants.{Accepted, Refused}
+use Rattle.std.specs.Prelude.{Result, Ok, Err}
+use Rattle.answers.specs.declared.Refusal.{Refusal}
 use Rattle.header.specs.declared.access.Access.TheVariants.{NoAccess}
 
 pub access_of_worked : map access_of (0x20 ∷ 0x7B ∷ []) ≡ NoAccess ∷ NoAccess ∷ []
@@ -33,9 +33,9 @@ abbrev annex : List ℕ
 annex = 0x8C ∷ 0x20 ∷ 0x27 ∷ 0x78 ∷ 0x0B ∷ 0x13 ∷ 0x43 ∷ 0x65 ∷ 0x87 ∷ []
 
 -- the length and the fields of a header that was read
-abbrev fields_read : HeaderReading → List ℕ
-fields_read (Accepted h n) = n ∷ fields_of h
-fields_read (Refused r) = []
+abbrev fields_read : Result (Header × ℕ) Refusal → List ℕ
+fields_read (Ok (h, n)) = n ∷ fields_of h
+fields_read (Err r) = []
 
 pub annex_worked :
     fields_read (header_reading_of annex) ≡ 3 ∷ 0x8C ∷ 0x20 ∷ 0x27 ∷ 0 ∷ 0 ∷ 0 ∷ 0 ∷ 0 ∷ 0 ∷ 0 ∷ 0 ∷ 0 ∷ 0 ∷ []
@@ -97,5 +97,5 @@ written_worked = refl
 pub refusals_worked :
     map header_reading_of
     ([] ∷ (0x8B ∷ []) ∷ (0x90 ∷ []) ∷ (0x86 ∷ 0x20 ∷ 0x27 ∷ []) ∷ (0x8C ∷ 0x20 ∷ []) ∷ take 16 long ∷ [])
-    ≡ map Refused (ShortBody ∷ UnknownCi ∷ UnknownCi ∷ UnknownCi ∷ ShortBody ∷ ShortBody ∷ [])
+    ≡ map Err (ShortBody ∷ UnknownCi ∷ UnknownCi ∷ UnknownCi ∷ ShortBody ∷ ShortBody ∷ [])
 refusals_worked = refl

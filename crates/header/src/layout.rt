@@ -1,24 +1,27 @@
 // The four extended headers, their fields and lengths (EN 13757-4:2019, 13.2, Tables 43 to 47).
 ghost use Rattle.std.specs.Prelude.{◌≡◌};
 ghost use Rattle.header.specs.Layout.{ci_of, addressed, secured, session_place, header_length};
+ghost use Rattle.header.specs.HeaderReads.{header_kind_of};
 
 use address::Name;
+use answers::Refusal;
 
-// The four fixed headers (Table 43). Secured is the standard's encryption: a session number and a payload check.
-#[derive(Clone, Copy)]
+// The four fixed headers, each with its CI byte (Table 43). Secured is the standard's encryption: a session number and
+// a payload check.
+#[derive(Clone, Copy, Debug, PartialEq, Eq)]
 pub enum HeaderKind {
-    Plain,
-    Secured,
-    Addressed,
-    AddressedSecured,
+    Plain = 0x8C,
+    Secured = 0x8D,
+    Addressed = 0x8E,
+    AddressedSecured = 0x8F,
 }
 
 // PayloadCRC: two bytes as they are sent, not judged.
-#[derive(Clone, Copy)]
+#[derive(Clone, Copy, Debug, PartialEq, Eq)]
 pub struct PayloadCheck(pub u8, pub u8);
 
 // What encryption needs: SN and PayloadCRC.
-#[derive(Clone, Copy)]
+#[derive(Clone, Copy, Debug, PartialEq, Eq)]
 pub struct Session {
     pub sn: u32,
     pub check: PayloadCheck,
@@ -26,7 +29,7 @@ pub struct Session {
 
 // A header; the receiver is M2 and A2. What its kind lacks is zero where it was read, and is not looked at where it is
 // written.
-#[derive(Clone, Copy)]
+#[derive(Clone, Copy, Debug, PartialEq, Eq)]
 pub struct Header {
     pub kind: HeaderKind,
     pub cc: u8,
@@ -35,51 +38,55 @@ pub struct Header {
     pub session: Session,
 }
 
-// The CI byte of a header of this kind (Table 43).
-pub fn ci_of(kind: HeaderKind) -> u8
-    ensures { result ≡ ci_of kind }
-{
-    match kind {
-        HeaderKind::Plain => 0x8C,
-        HeaderKind::Secured => 0x8D,
-        HeaderKind::Addressed => 0x8E,
-        HeaderKind::AddressedSecured => 0x8F,
+impl HeaderKind {
+    // The CI byte of a header of this kind.
+    pub fn ci(self) -> u8
+        ensures { result ≡ ci_of self }
+    {
+        self as u8
+    }
+
+    pub(crate) fn has_receiver(self) -> bool
+        ensures { result ≡ addressed self }
+    {
+        matches!(self, HeaderKind::Addressed | HeaderKind::AddressedSecured)
+    }
+
+    pub(crate) fn has_session(self) -> bool
+        ensures { result ≡ secured self }
+    {
+        matches!(self, HeaderKind::Secured | HeaderKind::AddressedSecured)
+    }
+
+    // Where SN starts: behind A2, if there is one.
+    pub(crate) fn session_place(self) -> usize
+        ensures { result ≡ session_place self }
+    {
+        if self.has_receiver() { 11 } else { 3 }
+    }
+
+    // The bytes of a header, CI among them.
+    pub(crate) fn length(self) -> usize
+        ensures { result ≡ header_length self }
+    {
+        let at = self.session_place();
+        if self.has_session() { at + 6 } else { at }
     }
 }
 
-pub fn has_receiver(kind: HeaderKind) -> bool
-    ensures { result ≡ addressed kind }
-{
-    match kind {
-        HeaderKind::Plain => false,
-        HeaderKind::Secured => false,
-        HeaderKind::Addressed => true,
-        HeaderKind::AddressedSecured => true,
+// The kind that a CI byte stands for.
+impl TryFrom<u8> for HeaderKind {
+    type Error = Refusal;
+
+    ghost try_from_gives = { λ ci kind. kind ≡ header_kind_of ci };
+
+    fn try_from(ci: u8) -> Result<HeaderKind, Refusal> {
+        match ci {
+            0x8C => Ok(HeaderKind::Plain),
+            0x8D => Ok(HeaderKind::Secured),
+            0x8E => Ok(HeaderKind::Addressed),
+            0x8F => Ok(HeaderKind::AddressedSecured),
+            _ => Err(Refusal::UnknownCi),
+        }
     }
-}
-
-pub fn has_session(kind: HeaderKind) -> bool
-    ensures { result ≡ secured kind }
-{
-    match kind {
-        HeaderKind::Plain => false,
-        HeaderKind::Secured => true,
-        HeaderKind::Addressed => false,
-        HeaderKind::AddressedSecured => true,
-    }
-}
-
-// Where SN starts: behind A2, if there is one.
-pub fn session_place(kind: HeaderKind) -> usize
-    ensures { result ≡ session_place kind }
-{
-    if has_receiver(kind) { 11 } else { 3 }
-}
-
-// The bytes of a header, CI among them (Table 43).
-pub fn header_length(kind: HeaderKind) -> usize
-    ensures { result ≡ header_length kind }
-{
-    let at = session_place(kind);
-    if has_session(kind) { at + 6 } else { at }
 }

@@ -9,6 +9,6 @@ mod writing; // writing.rt: a header written
 mod access; // access.rt: when a meter may be called
 
 pub use access::{Access, announced};
-pub use layout::{Header, HeaderKind, PayloadCheck, Session, ci_of};
-pub use reading::{HeaderReading, read};
+pub use layout::{Header, HeaderKind, PayloadCheck, Session};
+pub use reading::read;
 pub use writing::write;

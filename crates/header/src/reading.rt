@@ -1,39 +1,11 @@
 // A header read from the start of a body (EN 13757-4:2019, 13.2; document 01, "Extended headers and names").
 ghost use Rattle.std.specs.Prelude.{◌≡◌, ◌+◌, ◌≤◌, ◌<◌, length};
 ghost use Rattle.header.specs.Layout.{header_length};
-ghost use Rattle.header.specs.HeaderReads.{header_kind_of, four_at, session_at, header_in, header_reading_as, header_reading_of};
+ghost use Rattle.header.specs.HeaderReads.{four_at, session_at, header_in, header_reading_of};
 
-use crate::layout::{
-    Header, HeaderKind, PayloadCheck, Session, has_receiver, has_session, header_length,
-    session_place,
-};
+use crate::layout::{Header, HeaderKind, PayloadCheck, Session};
 use address::{Address, Name, name_at, two_at};
 use answers::Refusal;
-
-#[derive(Clone, Copy)]
-pub enum HeaderReading {
-    Accepted(Header, usize),
-    Refused(Refusal),
-}
-
-// The kind that a CI byte stands for.
-#[derive(Clone, Copy)]
-enum CiKind {
-    Is(HeaderKind),
-    NoKind,
-}
-
-fn kind_of(ci: u8) -> CiKind
-    ensures { result ≡ header_kind_of ci }
-{
-    match ci {
-        0x8C => CiKind::Is(HeaderKind::Plain),
-        0x8D => CiKind::Is(HeaderKind::Secured),
-        0x8E => CiKind::Is(HeaderKind::Addressed),
-        0x8F => CiKind::Is(HeaderKind::AddressedSecured),
-        _ => CiKind::NoKind,
-    }
-}
 
 // Four bytes from place k on, the least significant first (13.2.1).
 fn four_at(s: &[u8], k: usize) -> u32
@@ -58,7 +30,7 @@ fn receiver_in(kind: HeaderKind, body: &[u8]) -> Name
     requires { header_length kind ≤ length body.now }
     ensures { result ≡ (header_in kind body.now).receiver }
 {
-    if has_receiver(kind) {
+    if kind.has_receiver() {
         name_at(body, 3)
     } else {
         Name {
@@ -73,8 +45,8 @@ fn session_in(kind: HeaderKind, body: &[u8]) -> Session
     requires { header_length kind ≤ length body.now }
     ensures { result ≡ (header_in kind body.now).session }
 {
-    if has_session(kind) {
-        session_at(body, session_place(kind))
+    if kind.has_session() {
+        session_at(body, kind.session_place())
     } else {
         Session {
             sn: 0,
@@ -99,26 +71,17 @@ fn header_in(kind: HeaderKind, body: &[u8]) -> Header
     }
 }
 
-// The answer for a body whose CI stands for this kind.
-fn read_as(kind: HeaderKind, body: &[u8]) -> HeaderReading
-    ensures { result ≡ header_reading_as (CiKind.Is kind) body.now }
-{
-    let n = header_length(kind);
-    if body.len() < n {
-        return HeaderReading::Refused(Refusal::ShortBody);
-    }
-    HeaderReading::Accepted(header_in(kind, body), n)
-}
-
-// Reads the header at the start of a body. Bytes behind it are not looked at.
-pub fn read(body: &[u8]) -> HeaderReading
+// Reads the header at the start of a body: what it is, and how long. Bytes behind it are not looked at.
+pub fn read(body: &[u8]) -> Result<(Header, usize), Refusal>
     ensures { result ≡ header_reading_of body.now }
 {
-    if body.len() == 0 {
-        return HeaderReading::Refused(Refusal::ShortBody);
+    if body.is_empty() {
+        return Err(Refusal::ShortBody);
     }
-    match kind_of(body[0]) {
-        CiKind::Is(kind) => read_as(kind, body),
-        CiKind::NoKind => HeaderReading::Refused(Refusal::UnknownCi),
+    let kind = HeaderKind::try_from(body[0])?;
+    let n = kind.length();
+    if body.len() < n {
+        return Err(Refusal::ShortBody);
     }
+    Ok((header_in(kind, body), n))
 }

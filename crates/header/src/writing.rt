@@ -1,15 +1,13 @@
 // A header written at the start of lent bytes (EN 13757-4:2019, 13.2; document 01, "Extended headers and names").
 ghost use Rattle.std.specs.Prelude.{◌≡◌, ◌++◌, ◌+◌, ◌≤◌, ◌<◌, length, drop};
 ghost use Rattle.std.proofs.lemmas.List.Edits.{sets};
-ghost use Rattle.answers.specs.Outcome.{Outcome};
+ghost use Rattle.answers.specs.Outcome.{leaving};
 ghost use Rattle.header.specs.Layout.{receiver_place, session_place, header_length, session_bytes, receiver_part, session_part, header_bytes};
 ghost use Rattle.header.specs.HeaderWrites.{header_writing_of};
 
-use crate::layout::{
-    Header, HeaderKind, Session, ci_of, has_receiver, has_session, header_length, session_place,
-};
+use crate::layout::{Header, HeaderKind, Session};
 use address::{Name, put_four, put_name};
-use answers::{Refusal, Written};
+use answers::Refusal;
 
 fn put_session_at(out: &mut [u8], k: usize, session: Session)
     requires { k + 5 < length out.old }
@@ -35,10 +33,9 @@ fn put_receiver(out: &mut [u8], kind: HeaderKind, receiver: Name)
     requires { header_length kind ≤ length out.old }
     ensures { out.new ≡ sets out.old receiver_place (receiver_part kind receiver) }
 {
-    if !has_receiver(kind) {
-        return;
+    if kind.has_receiver() {
+        put_name(out, 3, receiver);
     }
-    put_name(out, 3, receiver);
 }
 
 // SN and PayloadCRC, where the kind has them.
@@ -46,10 +43,9 @@ fn put_session(out: &mut [u8], kind: HeaderKind, session: Session)
     requires { header_length kind ≤ length out.old }
     ensures { out.new ≡ sets out.old (session_place kind) (session_part kind session) }
 {
-    if !has_session(kind) {
-        return;
+    if kind.has_session() {
+        put_session_at(out, kind.session_place(), session);
     }
-    put_session_at(out, session_place(kind), session);
 }
 
 // The bytes of the header, from the first place on.
@@ -60,7 +56,7 @@ fn put_header(out: &mut [u8], h: Header)
     let kind = h.kind;
     let receiver = h.receiver;
     let session = h.session;
-    out[0] = ci_of(kind);
+    out[0] = kind.ci();
     out[1] = h.cc;
     out[2] = h.acc;
     put_receiver(out, kind, receiver);
@@ -68,15 +64,13 @@ fn put_header(out: &mut [u8], h: Header)
 }
 
 // Writes the header at the start of the lent bytes. Those behind it stay.
-pub fn write(h: Header, out: &mut [u8]) -> Written
-    ensures { ◌≡◌ {A = Outcome Written} (record { answer = result; memory = out.new })
-        (header_writing_of h out.old) }
+pub fn write(h: Header, out: &mut [u8]) -> Result<usize, Refusal>
+    ensures { leaving result out.new ≡ header_writing_of h out.old }
 {
-    let kind = h.kind;
-    let n = header_length(kind);
+    let n = h.kind.length();
     if out.len() < n {
-        return Written::Refused(Refusal::NoRoom);
+        return Err(Refusal::NoRoom);
     }
     put_header(out, h);
-    Written::Accepted(n)
+    Ok(n)
 }

@@ -7,7 +7,7 @@ ghost use Rattle.modes.specs.Tables.{mode_number, mode_of, format_number, format
 use frame::Format;
 
 // The modes of Table 64, in its order.
-#[derive(Clone, Copy)]
+#[derive(Clone, Copy, Debug, PartialEq, Eq)]
 pub enum Mode {
     R,
     S,
