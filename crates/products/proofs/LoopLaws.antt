@@ -1,9 +1,7 @@
--- Loops over coefficients: a value by Horner's rule, and values combined.
---     Valuing       the value of the coefficients so far: the invariant, with its start, turn and end
---     Combining     the sum so far: the same
+-- Values combined: `Combining` is the loop's invariant, the sum so far, with its turn and end.
 -- Assumes nothing.
 use mathlib.Core.List.{List}
-use mathlib.Core.Path.{◌≡◌, refl, sym, ap, ap₂, ◌∙◌}
+use mathlib.Core.Path.{◌≡◌, sym, ap, ap₂, ◌∙◌}
 use Prim.Native.Nat.{ℕ, suc, ◌+◌, ◌-◌, ◌≤◌, ◌<◌}
 use native.Mathlib.Numerals.{add-one}
 use native.Mathlib.Omega.{arith}
@@ -12,39 +10,10 @@ use lib.ListN.{length, get_or, drop, length-drop, drop_of_length-le}
 use lib.Seq.{drop-cons}
 use Rattle.ground.proofs.XorLaws.{xor_assoc}
 use Rattle.field.specs.Field.{mul}
-use Rattle.field.specs.Polynomials.{eval_from, value_at}
 use Rattle.locators.specs.Combinations.{combined}
 
 drop_next : (w : List ℕ) (i : ℕ) → drop (i + 1) w ≡ drop (suc i) w
 drop_next w i = ap (λ (k : ℕ). drop k w) (add-one i)
-
--- ---- a value
-
-pub record Valuing (r : ℕ) (w : List ℕ) (v i : ℕ) : Type 0 where
-  pub within : i ≤ length w
-  pub byte : v < 256
-  pub rest : eval_from r v (drop i w) ≡ value_at r w
-
-module _ (r : ℕ) (w : List ℕ) where
-  pub valuing_start : Valuing r w 0 0
-  valuing_start = record { within = omega arith; byte = omega arith; rest = refl }
-
-  valuing_rest : {v i p : ℕ} → Valuing r w v i → i < length w → p ≡ mul v r
-      → eval_from r (bit_xor p (get_or w i 0)) (drop (i + 1) w) ≡ value_at r w
-  unfolding eval_from
-  valuing_rest {v} {i} c h is =
-      ap₂ (λ (a : ℕ) (l : List ℕ). eval_from r (bit_xor a (get_or w i 0)) l) is (drop_next w i)
-      ∙ sym (ap (eval_from r v) (drop-cons w i 0 h)) ∙ c.rest
-
-  pub valuing_next : {v i p : ℕ} → Valuing r w v i → i < length w → p ≡ mul v r → bit_xor p (get_or w i 0) < 256
-      → Valuing r w (bit_xor p (get_or w i 0)) (i + 1)
-  valuing_next c h is byte = record { within = omega arith; byte = byte; rest = valuing_rest c h is }
-
-  pub valuing_end : {v i : ℕ} → Valuing r w v i → length w ≤ i → v ≡ value_at r w
-  unfolding eval_from
-  valuing_end {v} {i} c h = sym (ap (eval_from r v) (drop_of_length-le w h)) ∙ c.rest
-
--- ---- values combined
 
 pub record Combining (s v : List ℕ) (i z k : ℕ) : Type 0 where
   pub within : k ≤ length v
@@ -52,9 +21,6 @@ pub record Combining (s v : List ℕ) (i z k : ℕ) : Type 0 where
   pub rest : bit_xor z (combined s (drop k v) i) ≡ combined s v i
 
 module _ (s v : List ℕ) (i : ℕ) where
-  pub combining_start : Combining s v i 0 0
-  combining_start = record { within = omega arith; byte = omega arith; rest = refl }
-
   behind : (k : ℕ) → i + (length v - 1 - k) ≡ i + length (drop (suc k) v)
   behind k = omega (arith, length-drop (suc k) v)
 

@@ -12,11 +12,7 @@ impl Tables {
         requires { k < 255 }
         ensures { result ≡ value_at (alpha_to k) w.now }
     {
-        let mut value = 0;
-        for b in w {
-            value = self.times_power(value, k) ^ *b;
-        }
-        value
+        w.iter().fold(0, |value, b| self.times_power(value, k) ^ *b)
     }
 
     // The values s from place i on, each times the coefficient of v's power 0, 1 and so on, added up.

@@ -1,16 +1,22 @@
-use Rattle.std.proofs.Common.{arith, get_or}
-use lib.Bits.{xor_lt}
-use Rattle.field.specs.Field.{alpha_to}
-use Rattle.field.proofs.FieldLaws.{mul-lt}
-use Rattle.products.proofs.LoopLaws.{valuing_next, valuing_end}
+-- `products::tables::Tables::value_at` meets its contract: after each byte, what was folded is the value of the bytes so
+-- far. Assumes nothing.
+use Rattle.std.proofs.Common.{◌≡◌, ◌++◌, ◌∷◌, [], ℕ, List, ap, ◌∙◌, sym, refl, rules, subst}
+use Rattle.std.proofs.lemmas.Fn.{fold_over, slice_gives, fronts}
+use lib.Bits.{bit_xor}
+use Rattle.field.specs.Field.{alpha_to, mul}
+use Rattle.field.specs.Polynomials.{eval_from, value_at}
+use Rattle.field.proofs.PolynomialLaws.{eval_append}
 use Rattle.products.proofs.tables.Tables.value_at.Goals as goal
 
-pub loop-b-preserved : goal.loop-b-preserved
-loop-b-preserved c =
-    let small = mul-lt c.loop-b.value (alpha_to c.args.k) c.loop-b.invariant.byte in
-    valuing_next _ _ c.loop-b.invariant (omega arith) c.times_power.ensures
-    (xor_lt 8 c.times_power.result (get_or c.args.w.now c.loop-b.b-index 0) (omega (arith, c.times_power.ensures, small))
-    (omega (arith, c.type_inv.w c.loop-b.b-index)))
+next : (r : ℕ) (ys : List ℕ) (a x b : ℕ) → a ≡ value_at r ys → b ≡ bit_xor (mul a r) x → b ≡ value_at r (ys ++ (x ∷ []))
+unfolding eval_from
+next r ys a x b j e = e ∙ ap (λ (v : ℕ). bit_xor (mul v r) x) j ∙ sym (eval_append r 0 ys (x ∷ []))
 
 pub returns : goal.returns
-returns c = valuing_end _ _ c.loop-b.invariant (omega arith)
+unfolding eval_from
+returns c =
+    let r = alpha_to c.args.k in
+    subst (λ (w : List ℕ). c.fold.result ≡ value_at r w) c.iter.ensures.rest
+    (fold_over fronts (λ y. y.now) _ (λ ys a. a ≡ value_at r ys) _
+    (λ ys a x b f' j h. (next r ys a x.now b j (search rules), search rules)) _ _ 0 c.fold.result
+    (slice_gives c.iter.result) refl c.fold.ensures.ran)
