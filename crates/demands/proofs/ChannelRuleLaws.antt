@@ -10,8 +10,9 @@ use borrow.Author.Tests.{ltb-true, ltb-false, lt-ltb, le-ltb, eqb-true, eqb-fals
 use lib.Dec.{ltb, eqb}
 use lib.Ieee.{Float}
 use lib.ListN.{length, get_or}
-use Rattle.std.specs.Prelude.{Option, Some, None}
-use Rattle.ground.proofs.CaseLaws.{zero_not_one, and_left, and_right}
+use Rattle.std.specs.Prelude.{Option, Some, None, slice_get}
+use Rattle.std.proofs.lemmas.Option.{slice_get_past, slice_get-get_or}
+use Rattle.ground.proofs.CaseLaws.{by_test, zero_not_one}
 use Rattle.chips.specs.Packing.{tabulate}
 use Rattle.channels.specs.declared.listing.Band.{Band}
 use Rattle.channels.specs.declared.listing.Line.{Line}
@@ -41,50 +42,19 @@ module _ (i c : ℕ) where
     by true p e = ltb-true c (channels_of i) p
     by false p e = absurd (zero_not_one (let n = ap (λ (x : Told Float). x.number) e in cc))
 
--- every line of a list is one of a channel
-is_channel : Option Line → Bool
-is_channel (Some x) = true
-is_channel None = false
-
-all_channels : List (Option Line) → Bool
-all_channels [] = true
-all_channels (x ∷ xs) = is_channel x && all_channels xs
-
-lines_of_channels : (b : Option Band) → all_channels (lines_of b) ≡ true
-unfolding all_channels is_channel lines_from channels_up_to entry_of table
-lines_of_channels (Some Band.A) = refl
-lines_of_channels (Some Band.B) = refl
-lines_of_channels (Some Band.C) = refl
-lines_of_channels (Some Band.D) = refl
-lines_of_channels None = refl
-
-listed_channel : (xs : List (Option Line)) (k : ℕ) → all_channels xs ≡ true → k < length xs → get_or xs k None ≡ None → ⊥
-unfolding all_channels is_channel
-listed_channel [] k all h e = not-suc-le-zero h
-listed_channel (x ∷ xs) zero all h e =
-    false≢true (sym (ap is_channel e) ∙ and_left (is_channel x) (all_channels xs) all)
-listed_channel (x ∷ xs) (suc k) all h e =
-    listed_channel xs k (and_right (is_channel x) (all_channels xs) all) (le_of_suc-le-suc h) e
-
-listed_end : (xs : List (Option Line)) (k : ℕ) → length xs ≤ k → get_or xs k None ≡ None
-listed_end [] k h = refl
-listed_end (x ∷ xs) zero h = absurd (not-suc-le-zero h)
-listed_end (x ∷ xs) (suc k) h = listed_end xs k (le_of_suc-le-suc h)
-
-told_end : (x : Option Line) → told_line x ≡ told 13 (0 ∷ 0 ∷ 0 ∷ []) → x ≡ None
-told_end (Some x) e = absurd (zero_not_one (let n = ap (λ (t : Told ℕ). t.number) e in cc))
-told_end None e = refl
+told_none : (x : Option Line) → told_line x ≡ told 13 (0 ∷ 0 ∷ 0 ∷ []) → x ≡ None
+told_none (Some x) e = absurd (zero_not_one (let n = ap (λ (t : Told ℕ). t.number) e in cc))
+told_none None e = refl
 
 pub no_line :
     (b : Option Band) (k : ℕ) → (told_line (line_at b k) ≡ told 13 (0 ∷ 0 ∷ 0 ∷ [])) ↔ (length (lines_of b) ≤ k)
-no_line b k = (λ e. by (ltb k (length (lines_of b))) refl e, λ h. ap told_line (listed_end (lines_of b) k h)) where
-  by :
-      (t : Bool) → ltb k (length (lines_of b)) ≡ t → told_line (line_at b k) ≡ told 13 (0 ∷ 0 ∷ 0 ∷ [])
-      → length (lines_of b) ≤ k
-  by true p e =
-      let inside = ltb-true k (length (lines_of b)) p in
-      absurd (listed_channel (lines_of b) k (lines_of_channels b) inside (told_end (line_at b k) e))
-  by false p e = ltb-false k (length (lines_of b)) p
+no_line b k = (λ e. by (told_none (line_at b k) e), λ h. ap told_line (slice_get_past (lines_of b) k h)) where
+  by : slice_get (lines_of b) k ≡ None → length (lines_of b) ≤ k
+  by none =
+      by_test (ltb k (length (lines_of b)))
+      (λ t. let some = slice_get-get_or (lines_of b) k (channel_line 0 0 0) (ltb-true k (length (lines_of b)) t) in
+      absurd (zero_not_one (let clash = sym some ∙ none in cc)))
+      (λ t. ltb-false k (length (lines_of b)) t)
 
 pub a_line : (x : Option Line) (i c h : ℕ) → (told_line x ≡ told 0 (i ∷ c ∷ h ∷ [])) ↔ (x ≡ Some (channel_line i c h))
 a_line x i c h = (there x, λ e. ap told_line e) where

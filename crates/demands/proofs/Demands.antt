@@ -16,7 +16,7 @@ use Rattle.address.proofs.MakerLaws.{maker_of_hard, maker_of_soft, letters_turne
 use Rattle.filter.specs.Listed.{verdict_of}
 use Rattle.header.proofs.HeaderTripLaws.{header_read_write, header_write_read}
 use Rattle.header.proofs.AccessLaws.{access_row-access_of}
-use Rattle.channels.proofs.ListingLaws.{get_or_lines_from-lt, get_or_lines_from-le}
+use Rattle.channels.proofs.ListingLaws.{slice_get_lines_from-lt, slice_get_lines_from-le}
 use Rattle.channels.proofs.ExactLaws.{row_of_exact, float-quarters_of_exact}
 use Rattle.crc.specs.Check.{bit_in, bits_in, byte_in, reg_of, check_of}
 use Rattle.crc.proofs.CheckLaws.{check_of-lt}
@@ -114,7 +114,7 @@ meter-numbers =
       exact_centre = λ i c h. (channel.there i c h, float-quarters_of_exact i c h);
       no_line = channel.no_line;
       a_line = λ b k. channel.a_line (line_at b k);
-      line_order = (λ b k. refl, λ i n k p. (get_or_lines_from-lt i n k p, get_or_lines_from-le i n k p));
+      line_order = (λ b k. refl, λ i n k p. (slice_get_lines_from-lt i n k p, slice_get_lines_from-le i n k p));
       band_b = channel.band_b;
       no_band = channel.no_band;
       a_band = channel.a_band;

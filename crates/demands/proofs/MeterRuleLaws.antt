@@ -72,7 +72,7 @@ module _ (es : List (List ℕ)) (n : ℕ) (s : List ℕ) (sixteen : length es �
   abbrev Says : Result Bool Refusal → Type 0
   Says v = (InUse es n (name_of s) × (v ≡ Ok true)) ⊎ ((InUse es n (name_of s) → ⊥) × (v ≡ Ok false))
 
-  listed_says : n ≤ 16 → (t : Bool) → listed (name_of s) (take n es) ≡ t → Says (cond t (Ok true) (Ok false))
+  listed_says : n ≤ 16 → (t : Bool) → listed (name_of s) (take n es) ≡ t → Says (Ok t)
   listed_says small true e =
       let u = listed_in_use es n (name_of s) (omega arith) e in
       inl ((u.at, (u.used, u.is)), refl)

@@ -7,7 +7,7 @@
 -- told as a number and a row (kusikhut/specs/Told, Calls). In the crate `entry` calls have the page's own words as
 -- contracts. The definitions are functions of all lists and numbers, so every input has one answer, and what is said
 -- here of a definition holds for every run of the function; docs/SETTLED.md says what that rests on.
-use Rattle.std.specs.Prelude.{true, false, cond, List, [], ◌∷◌, ◌++◌, map, ◌↔◌, ◌⊎◌, ◌≡◌, ℕ, ◌+◌, ◌-◌, ◌*◌, ◌/◌, ◌%◌, ◌≤◌, ◌<◌, ltb, length, get_or, take, drop, set, replicate, Result, Ok, Err, Option, Some, None}
+use Rattle.std.specs.Prelude.{true, false, cond, List, [], ◌∷◌, ◌++◌, map, ◌↔◌, ◌⊎◌, ◌≡◌, ℕ, ◌+◌, ◌-◌, ◌*◌, ◌/◌, ◌%◌, ◌≤◌, ◌<◌, ltb, length, get_or, take, drop, set, replicate, Result, Ok, Err, Option, Some, None, slice_get}
 use Rattle.std.specs.Borrow.{Bor}
 use Rattle.std.specs.Int.Bits.{bit_xor}
 use Rattle.std.specs.Float.Ieee.Exact.{HasValue}
@@ -190,15 +190,15 @@ pub record MeterNumbers : Type 0 where
   -- by channels::line_at, kusikhut_band_line
   pub a_line :
       (b : Option Band) (k i c h : ℕ)
-      → (told_line (line_at b k) ≡ told 0 (i ∷ c ∷ h ∷ [])) ↔ (get_or (lines_of b) k None ≡ Some (channel_line i c h))
+      → (told_line (line_at b k) ≡ told 0 (i ∷ c ∷ h ∷ [])) ↔ (slice_get (lines_of b) k ≡ Some (channel_line i c h))
   -- (index then channel ascending, in hertz: the first index's channels in their order, then the next index)
   -- by channels::line_at, kusikhut_band_line
   pub line_order :
-      ((b : Option Band) (k : ℕ) → line_at b k ≡ get_or (lines_from (rows_of b).first (rows_of b).count) k None)
+      ((b : Option Band) (k : ℕ) → line_at b k ≡ slice_get (lines_from (rows_of b).first (rows_of b).count) k)
       × ((i n k : ℕ) → 0 < n
-      → (k < channels_of i → get_or (lines_from i n) k None ≡ Some (channel_line i k (250 * quarters_of i k)))
+      → (k < channels_of i → slice_get (lines_from i n) k ≡ Some (channel_line i k (250 * quarters_of i k)))
       × (channels_of i ≤ k
-      → get_or (lines_from i n) k None ≡ get_or (lines_from (i + 1) (n - 1)) (k - channels_of i) None))
+      → slice_get (lines_from i n) k ≡ slice_get (lines_from (i + 1) (n - 1)) (k - channels_of i)))
   -- by channels::line_at, kusikhut_band_line
   pub band_b :
       (line_at (Some Band.B) 0 ≡ Some (channel_line 5 0 169481250))

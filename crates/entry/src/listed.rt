@@ -1,5 +1,5 @@
 // The channels of mode N and the lines of a band: each number is told exactly in its case.
-ghost use Rattle.std.specs.Prelude.{[], ◌∷◌, ◌↔◌, ◌⊎◌, ◌≡◌, ℕ, ◌≤◌, ◌<◌, length, get_or, Some, None};
+ghost use Rattle.std.specs.Prelude.{[], ◌∷◌, ◌↔◌, ◌⊎◌, ◌≡◌, ℕ, ◌≤◌, ◌<◌, length, slice_get, Some, None};
 ghost use Rattle.channels.specs.Table21.{channels_of, quarters_of};
 ghost use Rattle.channels.specs.Plan.{float};
 ghost use Rattle.channels.specs.Listing.{band_of, lines_of, channel_line};
@@ -30,7 +30,7 @@ fn no_line(band: &[u8], k: usize, results: &mut [u64; 3]) -> u8
 
 fn a_line(band: &[u8], k: usize, results: &mut [u64; 3]) -> u8
     ensures { (i c h : ℕ) → (told result results.new ≡ told 0 (i ∷ c ∷ h ∷ []))
-        ↔ (get_or (lines_of (band_of band.now)) k None ≡ Some (channel_line i c h)) }
+        ↔ (slice_get (lines_of (band_of band.now)) k ≡ Some (channel_line i c h)) }
 {
     kusikhut_band_line(band, k, results)
 }
