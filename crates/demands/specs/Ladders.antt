@@ -1,7 +1,7 @@
 -- The orders of document 01 ("Answer numbers"), a ladder for each call: specs/Rules says how a ladder is read,
 -- specs/Cases what each case means. The numbers are document 01's. What two ladders have in common is said once
 -- (.. Steps).
-use Rattle.std.specs.Prelude.{Bool, List, ◌++◌, true, ◌⊎◌, ◌≡◌, ℕ, ◌+◌, ◌≤◌, ◌<◌, ◌^◌, length, get_or, set, drop, Result, Ok, Some, None, ⊤}
+use Rattle.std.specs.Prelude.{Bool, List, ◌++◌, true, false, ◌⊎◌, ◌≡◌, ℕ, ◌+◌, ◌≤◌, ◌<◌, ◌^◌, length, get_or, set, drop, Result, Ok, Some, None, ⊤}
 use Rattle.answers.specs.declared.Refusal.{Refusal}
 use Rattle.answers.specs.Outcome.{Outcome}
 use Rattle.chips.specs.Chips.{word_at}
