@@ -23,6 +23,7 @@ use Rattle.blocks.proofs.CutLaws.{widest, widest_spans, spans_turn}
 use Rattle.frame.specs.declared.Format.{Format}
 use Rattle.frame.specs.Formats.{spans_of, frame_size, size_for}
 use Rattle.frame.specs.Frames.{FrameAt}
+use Rattle.frame.proofs.JudgeLaws.{sizes_settled}
 use Rattle.frame.proofs.AcceptLaws.{WholeFrame, judge_of_frame, size_for_frame, frame_some, judge_of-accepted, whole_room}
 use Rattle.frame.proofs.ReadLaws.{read-accepted}
 use Rattle.damage.specs.Damage.{LengthStays}
@@ -43,8 +44,7 @@ module _
     (bt : Bytes t) where
   pub same_size : LengthStays s t → (y ≡ z) × (length e ≡ length c)
   same_size stays =
-      let same = sym (size_for_frame there) ∙ ap (size_for f) stays ∙ size_for_frame at in
-      (cc, cc)
+      sizes_settled (sym (size_for_frame there) ∙ ap (size_for f) stays ∙ size_for_frame at)
 
   pub same_spans :
       {limit : ℕ} {Q P : List ℕ → Type 0} → Telling limit Q P → 8 * (widest (spans_of f (length c)) + 2) ≤ limit

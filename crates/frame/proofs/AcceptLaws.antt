@@ -28,7 +28,7 @@ use Rattle.frame.specs.Frames.{frame_of, content_in, FrameAt}
 use Rattle.frame.specs.Judging.{by_checks, by_length, judge_of}
 use Rattle.frame.proofs.FormatLaws.{allowed-length_byte, content_length-length_byte}
 use Rattle.frame.proofs.FrameLaws.{total-spans_of, length_frame_of, frame_of_length, frame_of_cons, payload-cons, content_in_frame_of, length-content_in}
-use Rattle.frame.proofs.JudgeLaws.{Sized, size_for_accepted, judge_of_whole, cond_refused_then}
+use Rattle.frame.proofs.JudgeLaws.{sizes_settled, Sized, size_for_accepted, judge_of_whole, cond_refused_then}
 
 -- a frame with any bytes t behind it is accepted
 module _ (f : Format) (c t : List ℕ) (low : (form_of f).shortest ≤ length c)
@@ -114,7 +114,7 @@ by_checks-accepted :
     (y m : ℕ) (w : Option ℕ) {z n : ℕ} → by_checks y m w ≡ Ok (sizes z n)
     → (w ≡ None) × ((y ≡ z) × (m ≡ n))
 unfolding by_checks
-by_checks-accepted y m None h = (refl, (cc, cc))
+by_checks-accepted y m None h = (refl, sizes_settled h)
 by_checks-accepted y m (Some b) h = (cc, (cc, cc))
 
 by_length-accepted :
@@ -170,5 +170,5 @@ pub frame_unique :
     {f : Format} {s : List ℕ} {z y : ℕ} {c d : List ℕ} → FrameAt f s z c → FrameAt f s y d → (z ≡ y) × (c ≡ d)
 frame_unique {f} {s} {c = c} {d = d} p q =
     let same = sym (judge_of_frame p) ∙ judge_of_frame q in
-    let n : length c ≡ length d = cc in
-    (cc, sym (content_in_frame p) ∙ ap (λ (k : ℕ). content_in f k s) n ∙ content_in_frame q)
+    let settled = sizes_settled same in
+    (settled.0, sym (content_in_frame p) ∙ ap (λ (k : ℕ). content_in f k s) settled.1 ∙ content_in_frame q)

@@ -1,4 +1,5 @@
 -- The judgement case by case, in the order in which the code makes its tests.
+--     sizes_settled        two accepted answers that are one have the same sizes
 --     Sized f l z n        what the length byte l says of a frame of z bytes with n of content, if it is not refused
 --     size_for_accepted     so it does
 --     judge_of-nil, -refused, -short, -whole    no byte; L refused; bytes are missing; the checks decide
@@ -18,6 +19,12 @@ use Rattle.frame.specs.declared.Frame.{Frame}
 use Rattle.frame.specs.Formats.{form_of, spans_of, frame_size, size_for, sizes}
 use Rattle.frame.specs.Judging.{by_checks, by_length, judge_of}
 use Rattle.frame.proofs.FormatLaws.{true_within, length_byte-content_length, within-content_length}
+
+pub sizes_settled :
+    {x y m n : ℕ} → ◌≡◌ {A = Result Frame Refusal} (Ok (sizes x m)) (Ok (sizes y n)) → (x ≡ y) × (m ≡ n)
+sizes_settled {x} {y} {m} {n} h =
+    let e : sizes x m ≡ sizes y n = cc in
+    (ap (λ (a : Frame). a.size) e, ap (λ (a : Frame). a.n) e)
 
 module _ {z n : ℕ} where
   pub cond_refused_then :
@@ -48,9 +55,8 @@ allowed_sized f l h =
 pub size_for_accepted : (f : Format) (l : ℕ) {z n : ℕ} → size_for f l ≡ Ok (sizes z n) → Sized f l z n
 size_for_accepted f l {z} {n} h =
     let p = cond_refused_else ((form_of f).allowed l) _ _ h in
-    let content : (form_of f).content_length l ≡ n = cc in
-    let size : frame_size f ((form_of f).content_length l) ≡ z = cc in
-    rw (size, content) at (allowed_sized f l p.0)
+    let same = sizes_settled p.1 in
+    rw (same.0, same.1) at (allowed_sized f l p.0)
 
 pub judge_of-nil : (f : Format) (s : List ℕ) → length s ≡ 0 → judge_of f s ≡ Err Refusal.Short
 unfolding judge_of
