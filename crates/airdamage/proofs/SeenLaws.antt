@@ -7,6 +7,10 @@
 --     never_t .. never_b    what is always so of each kind
 --     not_received      and so no call receives such a frame there
 -- Assumes nothing.
+use Rattle.std.specs.Prelude.{Result, Ok}
+use Rattle.answers.specs.declared.Refusal.{Refusal}
+use Rattle.answers.specs.Outcome.{leaving}
+use Rattle.radio.specs.Receiving.{reception}
 use mathlib.Core.List.{List, ◌++◌}
 use mathlib.Core.Logic.{inl, inr, ⊎_elim}
 use mathlib.Core.Path.{◌≡◌, refl, sym, ap, ap₂, ◌∙◌, subst}
@@ -309,10 +313,10 @@ pub not_received :
     (k : Kind) (w skip : ℕ) → NeverSent k w skip → (s t : List ℕ) (place : ℕ) (c : List ℕ) → SentAt k s place c
     → ChipBurst w (place + lead_of k + skip) (place + sent_chips k (length c)) s t
     → (j : Kind) (start a : ℕ) (d : List ℕ) (tried z n : ℕ)
-    → (receiving_of j t start a d).answer ≡ Reception.Accepted k place tried z n → ⊥
+    → (receiving_of j t start a d).answer ≡ Ok (reception k place tried z n) → ⊥
 not_received k w skip never s t place c sent damage j start a d tried z n accepted =
     let m = (receiving_of j t start a d).memory in
-    let outcome : receiving_of j t start a d ≡ record { answer = Reception.Accepted k place tried z n; memory = m } =
-    ap (λ (r : Reception). record { answer = r; memory = m }) accepted in
+    let outcome : receiving_of j t start a d ≡ leaving (Ok (reception k place tried z n)) m =
+    ap (λ (r : Result Reception Refusal). record { answer = r; memory = m }) accepted in
     let heard = (heard_exactly t start a d j k place tried z n m).0 outcome in
     never s t place c sent damage heard.0 heard.1.0.sent

@@ -8,6 +8,7 @@
 --     putting_behind          where there is, what is put is put_by
 --     accepted-cond-..        where a test decides between a refusal and another outcome, what is accepted is the other
 --     encoded-accepted-le     the bytes that were coded lie in the memory that was lent
+use Rattle.std.specs.Prelude.{Result, Ok, Err}
 use mathlib.Core.Bool.{Bool, true, false, cond}
 use mathlib.Core.List.{List, ◌++◌, append_assoc, append-nil}
 use mathlib.Core.Path.{◌≡◌, refl, ap, ap₂, sym, ◌∙◌}
@@ -18,9 +19,8 @@ use lib.Dec.{ltb}
 use lib.ListN.{length, take, drop, length-take, length-drop, take-append-drop, drop_of_length-le}
 use lib.Seq.{drop_at, drop-drop, take_all}
 use Rattle.ground.proofs.CaseLaws.{zero_not_one}
-use Rattle.answers.specs.Outcome.{Outcome}
+use Rattle.answers.specs.Outcome.{leaving, Outcome}
 use Rattle.answers.specs.declared.Refusal.{Refusal}
-use Rattle.answers.specs.declared.Written.{Written}
 use Rattle.line.specs.Codes.{LineCode}
 use Rattle.line.specs.Encoding.{encoding, encoded, encoded_size}
 use Rattle.sync.specs.declared.Kind.{Kind}
@@ -28,15 +28,15 @@ use Rattle.sync.specs.Kinds.{sync_bytes, lead_of}
 use Rattle.radio.specs.KindParts.{line_of}
 use Rattle.radio.specs.Sending.{air_of, air_size, putting}
 
-abbrev pub Leaves : Written → List ℕ → Outcome Written → Type 0
-Leaves a m o = ◌≡◌ {A = Outcome Written} (record { answer = a; memory = m }) o
+abbrev pub Leaves : Result ℕ Refusal → List ℕ → Outcome (Result ℕ Refusal) → Type 0
+Leaves a m o = ◌≡◌ {A = Outcome (Result ℕ Refusal)} (leaving a m) o
 
-abbrev pub behind : ℕ → List ℕ → Outcome Written → Outcome Written
+abbrev pub behind : ℕ → List ℕ → Outcome (Result ℕ Refusal) → Outcome (Result ℕ Refusal)
 behind start d o = record { answer = o.answer; memory = take start d ++ o.memory }
 
 -- a part that reaches to the end, encoded into and put back
 pub behind_part :
-    (κ : LineCode) (p d : List ℕ) (start : ℕ) → start ≤ length d → {a : Written} {m : List ℕ}
+    (κ : LineCode) (p d : List ℕ) (start : ℕ) → start ≤ length d → {a : Result ℕ Refusal} {m : List ℕ}
     → Leaves a m (encoded κ p (take (length d - start) (drop start d)))
     → Leaves a (take start d ++ (m ++ drop (length d - start) (drop start d)))
     (behind start d (encoded κ p (drop start d)))
@@ -44,31 +44,31 @@ behind_part κ p d start h {a} {m} e =
     let left : length (drop start d) ≤ length d - start = omega (arith, length-drop start d) in
     let none = drop_of_length-le (drop start d) {i = length d - start} left in
     let rest = ap (λ (x : List ℕ). m ++ x) none ∙ append-nil m in
-    ap (λ (x : List ℕ). record { answer = a; memory = take start d ++ x }) rest
+    ap (λ (x : List ℕ). leaving a (take start d ++ x)) rest
     ∙ ap (behind start d) (e ∙ ap (encoded κ p) (take_all (length d - start) (drop start d) left))
 
 -- where a test decides between a refusal and another outcome, it is the other that is accepted
 pub accepted-cond_false :
-    (t : Bool) (r : Refusal) (d : List ℕ) (o : Outcome Written) {y : ℕ}
-    → (cond t (record { answer = Written.Refused r; memory = d }) o).answer ≡ Written.Accepted y
-    → (t ≡ false) × (o.answer ≡ Written.Accepted y)
+    (t : Bool) (r : Refusal) (d : List ℕ) (o : Outcome (Result ℕ Refusal)) {y : ℕ}
+    → (cond t (leaving (Err r) d) o).answer ≡ Ok y
+    → (t ≡ false) × (o.answer ≡ Ok y)
 accepted-cond_false true r d o e = absurd (zero_not_one cc)
 accepted-cond_false false r d o e = (refl, e)
 
 pub accepted-cond_true :
-    (t : Bool) (r : Refusal) (d : List ℕ) (o : Outcome Written) {y : ℕ}
-    → (cond t o (record { answer = Written.Refused r; memory = d })).answer ≡ Written.Accepted y
-    → (t ≡ true) × (o.answer ≡ Written.Accepted y)
+    (t : Bool) (r : Refusal) (d : List ℕ) (o : Outcome (Result ℕ Refusal)) {y : ℕ}
+    → (cond t o (leaving (Err r) d)).answer ≡ Ok y
+    → (t ≡ true) × (o.answer ≡ Ok y)
 accepted-cond_true true r d o e = (refl, e)
 accepted-cond_true false r d o e = absurd (zero_not_one cc)
 
 pub encoded-accepted-le :
-    (κ : LineCode) (p d : List ℕ) {z : ℕ} → (encoded κ p d).answer ≡ Written.Accepted z → z ≤ length d
+    (κ : LineCode) (p d : List ℕ) {z : ℕ} → (encoded κ p d).answer ≡ Ok z → z ≤ length d
 unfolding encoded
 encoded-accepted-le κ p d {z} e =
     let size = encoded_size κ (length p) in
     let tests = accepted-cond_false (ltb (length d) size) Refusal.NoRoom d
-    (record { answer = Written.Accepted size; memory = encoding κ p ++ drop size d }) e in
+    (leaving (Ok size) (encoding κ p ++ drop size d)) e in
     let same : size ≡ z = cc in
     omega (arith, ltb-false (length d) size tests.0)
 
@@ -76,13 +76,13 @@ encoded-accepted-le κ p d {z} e =
 pub sync_bytes_lead : (k : Kind) (l : ℕ) → l ≡ lead_of k → l / 8 ≡ length (sync_bytes k)
 sync_bytes_lead k l e = omega arith
 
-abbrev pub put_by : Kind → ℕ → List ℕ → Written → Outcome Written
-put_by k start m (Written.Accepted size) =
-    record { answer = Written.Accepted (start + size); memory = sync_bytes k ++ drop (length (sync_bytes k)) m }
-put_by k start m (Written.Refused r) = record { answer = Written.Refused r; memory = m }
+abbrev pub put_by : Kind → ℕ → List ℕ → Result ℕ Refusal → Outcome (Result ℕ Refusal)
+put_by k start m (Ok size) =
+    leaving (Ok (start + size)) (sync_bytes k ++ drop (length (sync_bytes k)) m)
+put_by k start m (Err r) = leaving (Err r) m
 
 module _ (k : Kind) (p d : List ℕ) where
-  pub putting_none : length d < length (sync_bytes k) → Leaves (Written.Refused Refusal.NoRoom) d (putting k p d)
+  pub putting_none : length d < length (sync_bytes k) → Leaves (Err Refusal.NoRoom) d (putting k p d)
   unfolding putting
   putting_none h = rw (lt-ltb (length d) (air_size k (length p)) (omega arith))
 
@@ -104,10 +104,10 @@ module _ (k : Kind) (p d : List ℕ) where
     abbrev coded : List ℕ
     coded = encoding (line_of k) p ++ drop size (drop start d)
 
-    abbrev tested : Bool → Outcome Written
+    abbrev tested : Bool → Outcome (Result ℕ Refusal)
     tested t =
-        cond t (record { answer = Written.Refused Refusal.NoRoom; memory = drop start d })
-        (record { answer = Written.Accepted size; memory = coded })
+        cond t (leaving (Err Refusal.NoRoom) (drop start d))
+        (leaving (Ok size) coded)
 
     drop_coded :
         drop (length (sync_bytes k)) (take start d ++ coded) ≡ encoding (line_of k) p ++ drop (air_size k (length p)) d
@@ -132,10 +132,10 @@ module _ (k : Kind) (p d : List ℕ) where
     unfolding putting
     putting_tested true f =
         let same = take-append-drop start d in
-        rw (ltb_drop true f) (ap (λ (x : List ℕ). record { answer = Written.Refused Refusal.NoRoom; memory = x }) same)
+        rw (ltb_drop true f) (ap (λ (x : List ℕ). leaving (Err Refusal.NoRoom) x) same)
     putting_tested false f =
         rw (ltb_drop false f)
-        (ap₂ (λ (x : ℕ) (y : List ℕ). record { answer = Written.Accepted (x + size); memory = y }) e air_coded)
+        (ap₂ (λ (x : ℕ) (y : List ℕ). leaving (Ok (x + size)) y) e air_coded)
 
     pub putting_behind :
         let o = behind start d (encoded (line_of k) p (drop start d)) in

@@ -3,8 +3,10 @@ use mathlib.Core.List.{List}
 use mathlib.Core.Path.{◌≡◌, ap, ◌∙◌}
 use Prim.Native.Nat.{ℕ}
 use native.Mathlib.Omega.{arith}
+use borrow.Author.Rules.{rules}
 use lib.ListN.{replicate, length-take}
-use Rattle.answers.specs.declared.Written.{Written}
+use Rattle.std.specs.Prelude.{Result, Ok}
+use Rattle.answers.specs.declared.Refusal.{Refusal}
 use Rattle.frame.specs.Frames.{frame_of}
 use Rattle.radio.specs.KindParts.{format_of}
 use Rattle.radio.specs.Sending.{putting, sending_of}
@@ -24,30 +26,32 @@ write-called c =
     }
 
 -- what its answer x makes of the sending
-afterWritten-write :
-    (c : After-write) {x : Written} → c.write.result ≡ x → let a = c.args in
+after_written-write :
+    (c : After-write) {x : Result ℕ Refusal} → c.write.result ≡ x → let a = c.args in
     after_written x a.out.now (putting a.kind (frame_of (format_of a.kind) a.content.now) a.out.now)
     ≡ sending_of a.kind a.content.now a.out.now
 unfolding sending_of
-afterWritten-write c e = after_written_called (write-called c) e _ _
+after_written-write c e = after_written_called (write-called c) e _ _
 
 pub slice_bounds-bytes-end : goal.slice_bounds-bytes-end
 slice_bounds-bytes-end c =
-    (take-written (write-called (goal.at.slice_bounds-bytes-end c).After-write) c.in-Accepted.is).0
+    (take-written (write-called (goal.at.slice_bounds-bytes-end c).After-write) (c.in_ok-size.was tt)).0
 
 pub slice_bounds-put-end : goal.slice_bounds-put-end
 slice_bounds-put-end c =
     let w = write-called (goal.at.slice_bounds-put-end c).After-write in
-    let fits = take-written w c.in-Accepted.is in
+    let fits = take-written w (c.in_ok-size.was tt) in
     simp length-take (omega (arith, fits.0))
 
-pub returns-in-Accepted : goal.returns-in-Accepted
-returns-in-Accepted c =
+pub returns-in_err-size : goal.returns-in_err-size
+returns-in_err-size c =
+    let sent = after_written-write (goal.at.returns-in_err-size c).After-write (c.in_err-size.was tt) in
+    search rules
+
+pub returns : goal.returns
+returns c =
     let a = c.args in
-    let frame = (take-written (write-called (goal.at.returns-in-Accepted c).After-write) c.in-Accepted.is).1 in
+    let frame = (take-written (write-called (goal.at.returns c).After-write) (c.in_ok-size.was tt)).1 in
     c.put.ensures
     ∙ ap (λ (p : List ℕ). putting a.kind p a.out.now) frame
-    ∙ afterWritten-write (goal.at.returns-in-Accepted c).After-write c.in-Accepted.is
-
-pub returns-in-Refused : goal.returns-in-Refused
-returns-in-Refused c = afterWritten-write (goal.at.returns-in-Refused c).After-write c.in-Refused.is
+    ∙ after_written-write (goal.at.returns c).After-write (c.in_ok-size.was tt)
