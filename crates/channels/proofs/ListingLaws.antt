@@ -10,7 +10,7 @@ use mathlib.Core.Bool.{cond}
 use mathlib.Core.Logic.{⊎_elim}
 use mathlib.Core.List.{List, [], ◌∷◌, ◌++◌}
 use Prim.Native.Nat.{ℕ, zero, suc, ◌+◌, ◌-◌, ◌*◌, ◌<◌, ◌≤◌}
-use native.Mathlib.Nat.{zero-add, suc-add, not-suc-le-zero, le_of_suc-le-suc, eq-or-lt_of_le}
+use native.Mathlib.Nat.{zero-add, add-zero, suc-add, not-suc-le-zero, le_of_suc-le-suc, eq-or-lt_of_le}
 use native.Mathlib.Numerals.{add-one}
 use native.Mathlib.Omega.{arith}
 use lib.Dec.{eqb}
@@ -75,7 +75,7 @@ slice_get_channels_up_to i (suc n) c h =
     let s = channels_up_to i n in
     let x = channel_line i n (250 * quarters_of i n) in
     let size : length s ≡ n = length-channels_up_to i n in
-    ⊎_elim (λ e. rw (e, ← size) (slice_get_behind s (x ∷ []) 0))
+    ⊎_elim (λ e. rw e (rw (add-zero, size) at (slice_get_behind s (x ∷ []) 0)))
     (λ l. slice_get_front s (x ∷ []) c (omega arith) ∙ slice_get_channels_up_to i n c l)
     (eq-or-lt_of_le (le_of_suc-le-suc h))
 

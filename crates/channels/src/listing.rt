@@ -44,15 +44,11 @@ fn letter_of(x: u8) -> Option<Band>
 pub fn band_of(input: &[u8]) -> Option<Band>
     ensures { result ≡ band_of input.now }
 {
-    if input.len() == 1 {
-        return letter_of(input[0]);
+    match input {
+        [x] => letter_of(*x),
+        [x, b'\n'] => letter_of(*x),
+        _ => None,
     }
-    if input.len() == 2 {
-        if input[1] == b'\n' {
-            return letter_of(input[0]);
-        }
-    }
-    None
 }
 
 // The indices of a band, as Table 21 groups them.

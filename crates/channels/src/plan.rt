@@ -1,9 +1,9 @@
 // The mode N channel plan: rows and centres (EN 13757-4:2019, 10.2, Table 21; document 01, "Mode N channels").
 ghost use Rattle.std.specs.Prelude.{◌≡◌, ◌<◌, ◌*◌};
 ghost use Rattle.channels.specs.Table21.{channels_of, quarters_of};
-ghost use Rattle.channels.specs.Plan.{float, row_of, centre_of};
+ghost use Rattle.channels.specs.Plan.{float, row_of, entry_as_floats, centre_of};
 
-use crate::table21::{CHANNELS, ROWS};
+use crate::table21::TABLE;
 
 // A row of Table 21, in kilohertz: the first centre, the channel spacing, the frequency tolerance.
 #[derive(Clone, Copy)]
@@ -13,22 +13,22 @@ pub struct Row {
     pub tolerance: f64,
 }
 
+// The line of an index; zeros where there is none.
+fn entry_at(index: usize) -> (f64, f64, f64, usize)
+    ensures { result ≡ entry_as_floats index }
+{
+    if index < 14 { TABLE[index] } else { TABLE[0] }
+}
+
 // The row of an index; three zeros where there is none.
 pub fn row_at(index: usize) -> Row
     ensures { result ≡ row_of index }
 {
-    if 14 <= index {
-        return Row {
-            centre: 0.0,
-            spacing: 0.0,
-            tolerance: 0.0,
-        };
-    }
-    let row = ROWS[index];
+    let (centre, spacing, tolerance, _) = entry_at(index);
     Row {
-        centre: row[0],
-        spacing: row[1],
-        tolerance: row[2],
+        centre,
+        spacing,
+        tolerance,
     }
 }
 
@@ -36,7 +36,8 @@ pub fn row_at(index: usize) -> Row
 pub fn channels_of(index: usize) -> usize
     ensures { result ≡ channels_of index }
 {
-    if index < 14 { CHANNELS[index] } else { 0 }
+    let (_, _, _, channels) = entry_at(index);
+    channels
 }
 
 // The centre of a channel that there is. Every sum here is exact: nothing is rounded.
