@@ -13,10 +13,10 @@ in_memory-requires c = (omega arith, indexed_none c.args.store.now 8)
 pub add_to-requires : goal.add_to-requires
 add_to-requires c =
     let told = c.in_memory.ensures in
-    (sym told.0 ∙ c.in-Meters.is, (omega arith, told.1 _ c.in-Meters.is))
+    (sym told.0 ∙ c.in-Ok.is, (omega arith, told.1 _ c.in-Ok.is))
 
-pub returns-in-Refused : goal.returns-in-Refused
-returns-in-Refused c =
+pub returns-in-Err : goal.returns-in-Err
+returns-in-Err c =
     let a = c.args in
-    refused_memory a.store.now c.in_memory.ensures.0 c.in-Refused.is Err _
+    refused_memory a.store.now c.in_memory.ensures.0 c.in-Err.is Err _
     (added a.address a.mode a.format)

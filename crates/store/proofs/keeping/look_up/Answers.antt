@@ -12,9 +12,9 @@ in_memory-requires c = (omega arith, indexed_none c.args.store.now 8)
 pub look_in-requires : goal.look_in-requires
 look_in-requires c =
     let told = c.in_memory.ensures in
-    (sym told.0 ∙ c.in-Meters.is, (omega arith, told.1 _ c.in-Meters.is))
+    (sym told.0 ∙ c.in-Ok.is, (omega arith, told.1 _ c.in-Ok.is))
 
-pub returns-in-Refused : goal.returns-in-Refused
-returns-in-Refused c =
+pub returns-in-Err : goal.returns-in-Err
+returns-in-Err c =
     let a = c.args in
-    sym (ap (found a.address) (refused_is a.store.now c.in_memory.ensures.0 c.in-Refused.is))
+    sym (ap (found a.address) (refused_is a.store.now c.in_memory.ensures.0 c.in-Err.is))

@@ -14,10 +14,10 @@ in_memory-requires c = (omega arith, indexed_none c.args.store.now 8)
 
 pub write_from-requires : goal.write_from-requires
 write_from-requires c =
-    sym c.in_memory.ensures.0 ∙ c.in-Meters.is
+    sym c.in_memory.ensures.0 ∙ c.in-Ok.is
 
-pub returns-in-Refused : goal.returns-in-Refused
-returns-in-Refused c =
+pub returns-in-Err : goal.returns-in-Err
+returns-in-Err c =
     let a = c.args in
     sym (ap (λ (r : Result Store Refusal). copied r a.out.now)
-    (refused_is a.store.now c.in_memory.ensures.0 c.in-Refused.is))
+    (refused_is a.store.now c.in_memory.ensures.0 c.in-Err.is))

@@ -17,10 +17,10 @@ in_memory-requires c =
 pub restore_to-requires : goal.restore_to-requires
 restore_to-requires c =
     let told = c.in_memory.ensures in
-    (sym told.0 ∙ c.in-Meters.is, (omega arith, told.1 _ c.in-Meters.is))
+    (sym told.0 ∙ c.in-Ok.is, (omega arith, told.1 _ c.in-Ok.is))
 
-pub returns-in-Refused : goal.returns-in-Refused
-returns-in-Refused c =
+pub returns-in-Err : goal.returns-in-Err
+returns-in-Err c =
     let a = c.args in
-    refused_memory a.store.now c.in_memory.ensures.0 c.in-Refused.is Err _
+    refused_memory a.store.now c.in_memory.ensures.0 c.in-Err.is Err _
     (λ st. file_of a.file.now and_then (λ backup. restored_by backup st))
