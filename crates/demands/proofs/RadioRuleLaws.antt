@@ -53,15 +53,16 @@ use Rattle.demands.proofs.FrameRuleLaws.{size_follows, checks_follow, content_ke
 use Rattle.demands.proofs.SyncRuleLaws.{search_follows, tail_follows}
 
 after_words_outside :
-    (κ : LineCode) (s : List ℕ) (at n : ℕ) (d : List ℕ) (next : Outcome (Result Reception Refusal)) → in_range s at ≡ false
+    (κ : LineCode) (s : List ℕ) (at n : ℕ) (d : List ℕ) (next : Outcome (Result Reception Refusal))
+    → in_range s at ≡ false
     → after_words κ s at n d next ≡ leaving (Err Refusal.OutOfRange) d
 unfolding after_words
 after_words_outside κ s at n d next e = rw e
 
 -- the same words where a frame is received
 read_words_follow :
-    (κ : LineCode) (s : List ℕ) (at n : ℕ) (d : List ℕ) (next : Outcome (Result Reception Refusal)) (rest : Rule (Outcome (Result Reception Refusal)))
-    → InBuffer s at
+    (κ : LineCode) (s : List ℕ) (at n : ℕ) (d : List ℕ) (next : Outcome (Result Reception Refusal))
+    (rest : Rule (Outcome (Result Reception Refusal))) → InBuffer s at
     → (at + chips_in κ n ≤ chip_count s → good_run (value_at κ s at) (words_in κ n) ≡ words_in κ n
     → Follows (unchanged d) rest next)
     → Follows (unchanged d)
@@ -149,7 +150,8 @@ module _ (k : Kind) (place t : ℕ) (s d : List ℕ) (sync : SyncAt k s place) w
     bytes_follow =
         subst
         (λ (x : Result Frame Refusal).
-        Follows (unchanged d) (3 showing FirstWrongBlock (spans_of (format_of k) n) bytes else room_steps) (from_bytes bytes x))
+        Follows (unchanged d) (3 showing FirstWrongBlock (spans_of (format_of k) n) bytes else room_steps)
+        (from_bytes bytes x))
         (sym judged_bytes)
         (checks_follow (from_bytes bytes) (λ r. refl) (format_of k) n z bytes room_steps
         (omega (arith, length-decoding (line_of k) s at z)) room_follows

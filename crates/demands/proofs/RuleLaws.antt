@@ -114,7 +114,8 @@ judged_lent {A} {d} {rule} {o} never f =
           judged (λ p q e. let same = ap (λ (x : Outcome (Result A Refusal)). x.answer) e in cc)
           (λ r a. never (unchanged d r) r a refl) f;
       harmless =
-          λ r e. ⊎_elim (λ (p : (q : Refusal) × (o ≡ unchanged d q)). ap (λ (x : Outcome (Result A Refusal)). x.memory) p.1)
+          λ r e. ⊎_elim
+          (λ (p : (q : Refusal) × (o ≡ unchanged d q)). ap (λ (x : Outcome (Result A Refusal)). x.memory) p.1)
           (λ a. absurd (never o r a e)) (follows_ends f);
     }
 

@@ -38,8 +38,8 @@ module _ {B : Type 0} {refused : Refusal → B} (told : Result Store Refusal →
     (passes : (r : Refusal) → told (Err r) ≡ refused r) where
   -- a refusal that was read is handed on
   refusing :
-      {n : ℕ} {case : Type 0} {rest : Rule B} {r : Result Store Refusal} (why : Refusal) → r ≡ Err why → case → number_of why ≡ n
-      → value_of why ≡ 0 → Follows refused (n when case else rest) (told r)
+      {n : ℕ} {case : Type 0} {rest : Rule B} {r : Result Store Refusal} (why : Refusal) → r ≡ Err why → case
+      → number_of why ≡ n → value_of why ≡ 0 → Follows refused (n when case else rest) (told r)
   refusing {n} {case} {rest} why e holds number value =
       subst (Follows refused (n when case else rest)) (sym (ap told e ∙ passes why)) (taken_bare why holds number value)
 

@@ -1,4 +1,3 @@
-
 pub mod Rules
 pub mod Cases
 pub mod TopBit

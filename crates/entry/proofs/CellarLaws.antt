@@ -79,7 +79,8 @@ module _ (f : Format) (s sent lent : List ℕ) (size place byte : ℕ) (bytes : 
     pub cellar_made : (r : Refusal) → a ≡ Err r → ⊥
     cellar_made r e =
         let answer = ap (λ (l : List ℕ). (proposing_of 1 f (set l place byte) e).answer) memory_is in
-        zero_not_one (let is = sym again.answer ∙ answer ∙ ap (λ (o : Outcome (Result ℕ Refusal)). o.answer) (sym proposed) ∙ e in cc)
+        let made = ap (λ (o : Outcome (Result ℕ Refusal)). o.answer) proposed in
+        zero_not_one (let is = sym again.answer ∙ (answer ∙ (sym made ∙ e)) in cc)
 
     pub cellar_taken : (k : ℕ) × (proposal_of f out (set sent place byte) ≡ Ok k)
     cellar_taken = (_, rw (out_is, memory_is) at again.taken)

@@ -12,7 +12,14 @@ ghost use Rattle.sessions.specs.StoreCalls.{issuing};
 use answers::Refusal;
 use frame::{Format, Frame};
 
-fn changing_twice(f: Format, s: &mut [u8], first: usize, a: u8, second: usize, b: u8) -> Result<Frame, Refusal>
+fn changing_twice(
+    f: Format,
+    s: &mut [u8],
+    first: usize,
+    a: u8,
+    second: usize,
+    b: u8,
+) -> Result<Frame, Refusal>
     ensures { (d : List ℕ) (z n : ℕ) → (reading_of f s.old d).answer ≡ Ok (sizes z n)
         → let changed = edited (record { place = first; byte = a } ∷ record { place = second; byte = b } ∷ [])
         (take n (reading_of f s.old d).memory) in
