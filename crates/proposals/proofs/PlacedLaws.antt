@@ -18,6 +18,7 @@ use borrow.Author.Tests.{ltb-true, ltb-false}
 use lib.Dec.{ltb}
 use lib.ListN.{length, get_or, take, drop, length-append, get_or-append}
 use lib.Seq.{take_at, drop_at}
+use Rattle.std.specs.Prelude.{Result, Ok, Err}
 use Rattle.answers.specs.Outcome.{Outcome, leaving}
 use Rattle.answers.specs.declared.Refusal.{Refusal}
 use Rattle.ground.specs.Apart.{apart}
@@ -25,7 +26,7 @@ use Rattle.ground.specs.Bytes.{Bytes}
 use Rattle.ground.proofs.CaseLaws.{by_test, zero_not_one}
 use Rattle.frame.specs.declared.Format.{Format}
 use Rattle.frame.specs.declared.Frame.{Frame}
-use Rattle.frame.specs.Formats.{size_for}
+use Rattle.frame.specs.Formats.{sizes, size_for}
 use Rattle.frame.proofs.AcceptLaws.{size_for_some}
 use Rattle.proposals.specs.Received.{size_in, received}
 use Rattle.proposals.specs.Near.{Near, around, is_code_block, first_code_block, nearest_of}
@@ -60,10 +61,10 @@ module _ (f : Format) (s d : List ℕ) where
 
     sized : (j : Result Frame Refusal) → size_in f s ≡ j → P
     sized (Err r) e = refused r (λ k. proposing_refused k f s d e)
-    sized (Ok (sizes z n)) e =
-        by_test (ltb (length s) (z + 34))
-        (λ t. refused Refusal.Short (λ k. proposing_short k f s d e (ltb-true (length s) (z + 34) t)))
-        (λ t. with_room z n e (ltb-false (length s) (z + 34) t))
+    sized (Ok a) e =
+        by_test (ltb (length s) (a.size + 34))
+        (λ t. refused Refusal.Short (λ k. proposing_short k f s d e (ltb-true (length s) (a.size + 34) t)))
+        (λ t. with_room a.size a.n e (ltb-false (length s) (a.size + 34) t))
 
     pub ways : P
     ways = sized (size_in f s) refl
@@ -79,10 +80,7 @@ module _ (f : Format) (s d : List ℕ) {m : List ℕ} {r : Refusal}
   never : (z n : ℕ) → size_in f s ≡ Ok (sizes z n) → z + 34 ≤ length s → z + 32 ≤ length d → (k : ℕ)
       → leaving (Err r) m ≡ proposing_of k f s d
   never z n e there room k =
-      let same : Err r ≡ Ok (z + 32)
-      = ap (λ (o : Outcome (Result ℕ Refusal)). o.answer) (made ∙ proposing_done 0 f s d e there room) in
-      let clash : ◌≡◌ {A = ℕ} 0 1 = cc in
-      absurd (zero_not_one clash)
+      let same = ap (λ (o : Outcome (Result ℕ Refusal)). o.answer) (made ∙ proposing_done 0 f s d e there room) in cc
 
   pub refused_alike : (k : ℕ) → leaving (Err r) m ≡ proposing_of k f s d
   refused_alike = ways f s d alike never
@@ -107,23 +105,19 @@ module _ (j : ℕ) (f : Format) (s d : List ℕ) {m : List ℕ} {n : ℕ}
     (made : leaving (Ok n) m ≡ (proposing_of j f s d)) where
   impossible : (r : Refusal) → ((k : ℕ) → proposing_of k f s d ≡ leaving (Err r) d) → Placed j f s d n m
   impossible r all =
-      let same : Ok n ≡ Err r
-      = ap (λ (o : Outcome (Result ℕ Refusal)). o.answer) (made ∙ all j) in
-      let clash : ◌≡◌ {A = ℕ} 0 1 = cc in
-      absurd (zero_not_one clash)
-
-  counts_same : {a b : ℕ} → Ok a ≡ Ok b → a ≡ b
-  counts_same e = cc
+      let same = ap (λ (o : Outcome (Result ℕ Refusal)). o.answer) (made ∙ all j) in cc
 
   there_placed : (z l : ℕ) → size_in f s ≡ Ok (sizes z l) → z + 34 ≤ length s → z + 32 ≤ length d
       → Placed j f s d n m
   there_placed z l e there room =
       let same = made ∙ proposing_done j f s d e there room in
+      let answers = ap (λ (o : Outcome (Result ℕ Refusal)). o.answer) same in
+      let counted : n ≡ z + 32 = cc in
       record {
         size = z;
         content = l;
         sized = e;
-        is = counts_same (ap (λ (o : Outcome (Result ℕ Refusal)). o.answer) same);
+        is = counted;
         most = (size_in-accepted f s e).most;
         there = there;
         room = room;

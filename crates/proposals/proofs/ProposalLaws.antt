@@ -16,6 +16,7 @@ use borrow.Author.Tests.{lt-ltb, le-ltb, ltb-false}
 use lib.Dec.{ltb}
 use lib.ListN.{length, get_or, take, drop, length-drop}
 use lib.Seq.{length-take-le, take-add}
+use Rattle.std.specs.Prelude.{Result, Ok, Err}
 use Rattle.answers.specs.Outcome.{leaving}
 use Rattle.answers.specs.declared.Refusal.{Refusal}
 use Rattle.ground.specs.Apart.{apart}
@@ -24,7 +25,7 @@ use Rattle.ground.proofs.ByteLaws.{bytes_take, bytes_drop}
 use Rattle.ground.proofs.CaseLaws.{zero_not_one}
 use Rattle.frame.specs.declared.Format.{Format}
 use Rattle.frame.specs.declared.Frame.{Frame}
-use Rattle.frame.specs.Formats.{size_for}
+use Rattle.frame.specs.Formats.{sizes, size_for}
 use Rattle.codewords.specs.CodeBlocks.{CodeBlock, Corrects}
 use Rattle.codewords.proofs.FillLaws.{fill_code}
 use Rattle.proposals.specs.Received.{not_too_long, size_in, received}
@@ -68,19 +69,21 @@ pub record Sized (f : Format) (s : List ℕ) (z n : ℕ) : Type 0 where
 
 not_long : (j : Result Frame Refusal) {z n : ℕ} → not_too_long j ≡ Ok (sizes z n) → (j ≡ Ok (sizes z n)) × (z ≤ 223)
 unfolding not_too_long
-not_long (Err r) e = absurd (zero_not_one (cc))
-not_long (Ok (sizes y m)) {z} {n} e = by (ltb 223 y) refl e
+not_long (Err r) e = cc
+not_long (Ok a) {z} {n} e = by (ltb 223 a.size) refl e
   where
     by :
-        (t : Bool) → ltb 223 y ≡ t
-        → cond t (Err Refusal.TooLong) (Ok (sizes y m)) ≡ Ok (sizes z n)
-        → (Ok (sizes y m) ≡ Ok (sizes z n)) × (z ≤ 223)
-    by true t g = absurd (zero_not_one (cc))
-    by false t g = let same : y ≡ z = cc in (g, omega (arith, ltb-false 223 y t))
+        (t : Bool) → ltb 223 a.size ≡ t
+        → ◌≡◌ {A = Result Frame Refusal} (cond t (Err Refusal.TooLong) (Ok a)) (Ok (sizes z n))
+        → ◌≡◌ {A = Result Frame Refusal} (Ok a) (Ok (sizes z n)) × (z ≤ 223)
+    by true t g = cc
+    by false t g =
+        let same : a ≡ sizes z n = cc in
+        (g, omega (arith, ltb-false 223 a.size t, ap (λ (x : Frame). x.size) same))
 
 pub size_in-accepted : (f : Format) (s : List ℕ) {z n : ℕ} → size_in f s ≡ Ok (sizes z n) → Sized f s z n
 unfolding size_in
-size_in-accepted f [] e = absurd (zero_not_one (cc))
+size_in-accepted f [] e = cc
 size_in-accepted f (l ∷ s) e = let p = not_long (size_for f l) e in record { size = p.0; most = p.1 }
 
 -- ---- judging a proposal
@@ -194,8 +197,8 @@ compared_is w c d = by (is_code_block c) refl (ltb 16 (apart w c)) refl
         (Err Refusal.NotCode)
         ≡ Ok d
         → Compared w c d
-    by false t u far e = absurd (zero_not_one (cc))
-    by true t true far e = absurd (zero_not_one (cc))
+    by false t u far e = cc
+    by true t true far e = cc
     by true t false far e =
         let same : apart w c ≡ d = cc in
         record { code = t; differing = same; few = omega (arith, ltb-false 16 (apart w c) far) }
@@ -217,19 +220,19 @@ module _ (f : Format) (p s : List ℕ) (d : ℕ) (bytes : Bytes p) where
 
   taken_by : (j : Result Frame Refusal) → size_in f p ≡ j → proposal_by p s j ≡ Ok d → (z : ℕ) × TakenWith f p s z d
   unfolding proposal_by
-  taken_by (Err r) e g = absurd (zero_not_one (cc))
-  taken_by (Ok (sizes z n)) e g = by (ltb (length p) (z + 32) || ltb (length s) (z + 34)) refl g
+  taken_by (Err r) e g = cc
+  taken_by (Ok a) e g = by (ltb (length p) (a.size + 32) || ltb (length s) (a.size + 34)) refl g
     where
       by :
-          (t : Bool) → ltb (length p) (z + 32) || ltb (length s) (z + 34) ≡ t
-          → cond t (Err Refusal.Short) (compared (received z s) (take (z + 32) p)) ≡ Ok d
+          (t : Bool) → ltb (length p) (a.size + 32) || ltb (length s) (a.size + 34) ≡ t
+          → cond t (Err Refusal.Short) (compared (received a.size s) (take (a.size + 32) p)) ≡ Ok d
           → (z : ℕ) × TakenWith f p s z d
-      by true t h = absurd (zero_not_one (cc))
+      by true t h = cc
       by false t h =
-          let both = neither (ltb (length p) (z + 32)) (ltb (length s) (z + 34)) t in (
-            z,
+          let both = neither (ltb (length p) (a.size + 32)) (ltb (length s) (a.size + 34)) t in (
+            a.size,
             taken_with (size_in-accepted f p e) (ltb-false _ _ both.0) (ltb-false _ _ both.1)
-                (compared_is (received z s) (take (z + 32) p) d h),
+                (compared_is (received a.size s) (take (a.size + 32) p) d h),
           )
 
   with_taken : (z : ℕ) → TakenWith f p s z d → proposal_of f p s ≡ Ok d

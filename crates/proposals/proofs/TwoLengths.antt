@@ -12,6 +12,7 @@ use mathlib.Core.Path.{◌≡◌, refl, sym}
 use Prim.Native.Nat.{ℕ}
 use native.Mathlib.Omega.{arith}
 use lib.ListN.{take, drop}
+use Rattle.std.specs.Prelude.{Ok}
 use Rattle.ground.specs.Apart.{apart}
 use Rattle.ground.specs.Bytes.{Bytes}
 use Rattle.ground.specs.Sums.{xors}
@@ -21,8 +22,7 @@ use Rattle.blocks.specs.Spans.{size_of, cut, block_ok, first_wrong}
 use Rattle.field.specs.Field.{up, times_bits, mul}
 use Rattle.field.specs.Polynomials.{scaled}
 use Rattle.frame.specs.declared.Format.{Format}
-use Rattle.frame.specs.declared.Frame.{Frame}
-use Rattle.frame.specs.Formats.{frame_size}
+use Rattle.frame.specs.Formats.{sizes, frame_size}
 use Rattle.frame.specs.Judging.{by_checks, by_length, judge_of}
 use Rattle.codewords.specs.CheckBytes.{step_in, rem_of}
 use Rattle.codewords.proofs.NumbersLaws.{checks_of-numbers}

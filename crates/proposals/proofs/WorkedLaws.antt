@@ -8,10 +8,11 @@ use mathlib.Core.Path.{◌≡◌, ap, ◌∙◌}
 use Prim.Native.Nat.{ℕ, ◌+◌, ◌≤◌}
 use native.Mathlib.Omega.{arith}
 use lib.ListN.{length, take}
+use Rattle.std.specs.Prelude.{Ok}
 use Rattle.ground.specs.Apart.{apart}
 use Rattle.ground.specs.Bytes.{Bytes}
 use Rattle.frame.specs.declared.Format.{Format}
-use Rattle.frame.specs.declared.Frame.{Frame}
+use Rattle.frame.specs.Formats.{sizes}
 use Rattle.codewords.specs.CheckBytes.{checks_of}
 use Rattle.proposals.specs.Received.{size_in, received}
 use Rattle.proposals.specs.Near.{is_code_block}
