@@ -1,6 +1,7 @@
 -- That a test of a definition says whether a case of document 01 holds (specs/Cases), and that a case which shows a
 -- value holds of one value alone.
 --     range_kept, range_left                    10: the test of a buffer and a place
+--     first_same                               two first places of one kind are the same
 --     first_no_word, no_first_word, -same       6: where the run of code words ends
 --     allowed_announces, announces_allowed      2: the test of a length byte
 --     first_wrong_block, no_wrong_block, -same  3: the walk over the blocks
@@ -43,7 +44,7 @@ module _ (s : List ℕ) (at : ℕ) where
     by false a b = inl (omega (arith, leb-false (length s) room_limit a))
 
 -- two first places of one kind are the same: neither comes before the other
-first_same :
+pub first_same :
     {P : ℕ → Type 0} {i j : ℕ} → (P i → ⊥) → ((k : ℕ) → k < i → P k) → (P j → ⊥) → ((k : ℕ) → k < j → P k)
     → i ≡ j
 first_same {i = i} {j} not-i below-i not-j below-j = by (ltb i j) (ltb j i) refl refl where

@@ -2,7 +2,7 @@
 -- too: `told` makes of their answer what the call answers, and hands on a refusal as it is.
 use mathlib.Core.Bool.{Bool, true, false, cond}
 use mathlib.Core.List.{List}
-use mathlib.Core.Path.{◌≡◌, refl, sym, ◌∙◌, subst}
+use mathlib.Core.Path.{◌≡◌, refl, sym, ◌∙◌, ap₂, subst}
 use Prim.Native.Nat.{ℕ, ◌+◌, ◌-◌, ◌^◌, ◌/◌, ◌≤◌}
 use native.Mathlib.Omega.{arith}
 use borrow.Author.Tests.{ltb-true, ltb-false, eqb-true, eqb-false}
@@ -25,23 +25,16 @@ use Rattle.demands.specs.Rules.{Rule, ◌showing◌else◌, given, accept, Judge
 use Rattle.demands.specs.Cases.{NoSyncIn, UnknownTail, TailIs}
 use Rattle.demands.specs.Ladders.{search_steps, search_rule, tail_steps, tail_rule}
 use Rattle.demands.proofs.RuleLaws.{Follows, judged, taken_bare, taken_showing, passed_bare, tells-lt}
-use Rattle.demands.proofs.CaseLaws.{range_kept, range_left}
-
--- a pair is its two parts
-pair_same : (u v : ℕ × ℕ) → u.0 ≡ v.0 → u.1 ≡ v.1 → u ≡ v
-pair_same (a, b) (c, d) p q = rw (p, q)
+use Rattle.demands.proofs.CaseLaws.{range_kept, range_left, first_same}
 
 -- two matches that are both the first are one
-first_same :
+same_match :
     {s : List ℕ} {start a j t k u : ℕ} → FirstAt 0x543D 16 s start a j t → FirstAt 0x543D 16 s start a k u
     → (j ≡ k) × (t ≡ u)
-first_same {s} {start} {a} {j} {t} {k} {u} p q = by (ltb j k) (ltb k j) refl refl where
-  by : (b c : Bool) → ltb j k ≡ b → ltb k j ≡ c → (j ≡ k) × (t ≡ u)
-  by true c e h = absurd (q.first j p.behind (ltb-true j k e) p.stands)
-  by false true e h = absurd (p.first k q.behind (ltb-true k j h) q.stands)
-  by false false e h =
-      let same : j ≡ k = omega (arith, ltb-false j k e, ltb-false k j h) in
-      (same, omega (arith, p.counted, q.counted))
+same_match {s} {start} p q =
+    let same = first_same {P = λ i. start ≤ i → word_at s i 16 ≡ 0x543D → ⊥} (λ none. none p.behind p.stands)
+    (λ i l from. p.first i from l) (λ none. none q.behind q.stands) (λ i l from. q.first i from l) in
+    (same, omega (arith, p.counted, q.counted, same))
 
 -- where the word stands first, it is missing from no run of places that reaches so far
 first_there :
@@ -76,7 +69,7 @@ module _ {B : Type 0} {refused : Refusal → B} (told : Result Found Refusal →
       passed_bare (range_kept s start inside)
       (Follows.passed (λ w h. first_there f (positions 16 s start) (omega (arith, f)) h.1.1)
       (Follows.passed (λ w h. first_there f a f.allowed h.1.1)
-      (Follows.found (k, t) f (λ u g. let same = first_same g f in pair_same u (k, t) same.0 same.1) rest)))
+      (Follows.found (k, t) f (λ u g. let same = same_match g f in ap₂ (λ (x y : ℕ). (x, y)) same.0 same.1) rest)))
 
   search_ends : Matched → (x : Result Found Refusal) → Ends 0x543D 16 s start a x → Ladder x
   search_ends go x (Ends.outside e) =
