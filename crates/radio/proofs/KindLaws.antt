@@ -71,7 +71,7 @@ word_at_six s at =
 -- 010101 is no three-of-six word
 is_word_alternating : (y : ℕ) → y ≡ 0b010101 → is_word (word_value (code_of ThreeOfSix) y) ≡ true → ⊥
 is_word_alternating y e h =
-    let none : word_value (code_of ThreeOfSix) y ≡ NoWord
+    let none : word_value (code_of ThreeOfSix) y ≡ None
     = ap (word_value (code_of ThreeOfSix)) e ∙ ap (λ (l : List (Option ℕ)). get_or l 1 None) never_words.0 in
     let never : false ≡ true = sym (ap is_word none) ∙ h in
     zero_not_one cc

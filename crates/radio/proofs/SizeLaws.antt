@@ -10,7 +10,6 @@ use borrow.Author.Tests.{ltb-true, ltb-false}
 use lib.Dec.{ltb}
 use Rattle.frame.specs.declared.Format.{Format}
 use Rattle.frame.specs.declared.Format.TheVariants.{A, B}
-use Rattle.frame.specs.declared.Frame.{Frame}
 use Rattle.frame.specs.Formats.{sizes, form_of, frame_size, size_for}
 use Rattle.frame.proofs.FormatLaws.{frame_size_A, frame_size_B, frame_size_B_long}
 use Rattle.frame.proofs.JudgeLaws.{size_for_accepted}

@@ -108,7 +108,13 @@ fn frame_after(
 }
 
 // A frame of mode T or C, searched from `start` on over at most `allowance` positions.
-pub fn receive(s: &[u8], start: usize, allowance: usize, out: &mut [u8]) -> Result<Reception, Refusal>
+#[tactic(auto, unfolding(crate::specs::Receiving::reception_of, crate::specs::Receiving::by_sync, crate::specs::Receiving::by_tail))]
+pub fn receive(
+    s: &[u8],
+    start: usize,
+    allowance: usize,
+    out: &mut [u8],
+) -> Result<Reception, Refusal>
     ensures { leaving result out.new ≡ reception_of s.now start allowance out.old }
 {
     let found = sync::search(s, start, allowance)?;

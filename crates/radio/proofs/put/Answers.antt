@@ -1,11 +1,10 @@
 -- Each answer is the law of putting at what the line code answered.
 use mathlib.Core.Path.{◌≡◌, ap, sym, ◌∙◌}
-use mathlib.Core.List.{List}
-use Prim.Native.Nat.{ℕ, ◌+◌, ◌/◌, ◌≤◌}
+use Prim.Native.Nat.{ℕ, ◌/◌}
 use native.Mathlib.Omega.{arith}
 use borrow.Author.Rules.{rules}
-use lib.ListN.{length, drop, length-drop}
-use Rattle.std.specs.Prelude.{Result, Ok}
+use lib.ListN.{drop, length-drop}
+use Rattle.std.specs.Prelude.{Result}
 use Rattle.answers.specs.Outcome.{Outcome}
 use Rattle.answers.specs.declared.Refusal.{Refusal}
 use Rattle.radio.specs.KindParts.{line_of}
@@ -38,17 +37,17 @@ returns-then-out-start c =
 pub overflow_add-result : goal.overflow_add-result
 overflow_add-result c =
     let a = c.args in
-    let answer = sym (ap (λ (o : Outcome (Result ℕ Refusal)). o.answer) c.code_behind.ensures) ∙ c.in_ok-size.was tt in
+    let answer = sym (ap (λ (o : Outcome (Result ℕ Refusal)). o.answer) c.code_behind.ensures) ∙ c.in_ok-size.was in
     let start = c.lead-start.result / 8 in
     let coded = encoded-accepted-le (line_of a.kind) a.p.now (drop start a.out.now) answer in
     omega (arith, coded, length-drop start a.out.now)
 
 pub returns-in_err-size : goal.returns-in_err-size
 returns-in_err-size c =
-    let put = put_by-coded (goal.at.returns-in_err-size c).After-code_behind (c.in_err-size.was tt) in
+    let put = put_by-coded (goal.at.returns-in_err-size c).After-code_behind c.in_err-size.was in
     search rules
 
 pub returns : goal.returns
 returns c =
-    let put = put_by-coded (goal.at.returns c).After-code_behind (c.in_ok-size.was tt) in
+    let put = put_by-coded (goal.at.returns c).After-code_behind c.in_ok-size.was in
     search rules

@@ -5,7 +5,7 @@ use Prim.Native.Nat.{ℕ}
 use native.Mathlib.Omega.{arith}
 use borrow.Author.Rules.{rules}
 use lib.ListN.{replicate, length-take}
-use Rattle.std.specs.Prelude.{Result, Ok}
+use Rattle.std.specs.Prelude.{Result}
 use Rattle.answers.specs.declared.Refusal.{Refusal}
 use Rattle.frame.specs.Frames.{frame_of}
 use Rattle.radio.specs.KindParts.{format_of}
@@ -35,23 +35,23 @@ after_written-write c e = after_written_called (write-called c) e _ _
 
 pub slice_bounds-bytes-end : goal.slice_bounds-bytes-end
 slice_bounds-bytes-end c =
-    (take-written (write-called (goal.at.slice_bounds-bytes-end c).After-write) (c.in_ok-size.was tt)).0
+    (take-written (write-called (goal.at.slice_bounds-bytes-end c).After-write) c.in_ok-size.was).0
 
 pub slice_bounds-put-end : goal.slice_bounds-put-end
 slice_bounds-put-end c =
     let w = write-called (goal.at.slice_bounds-put-end c).After-write in
-    let fits = take-written w (c.in_ok-size.was tt) in
+    let fits = take-written w c.in_ok-size.was in
     simp length-take (omega (arith, fits.0))
 
 pub returns-in_err-size : goal.returns-in_err-size
 returns-in_err-size c =
-    let sent = after_written-write (goal.at.returns-in_err-size c).After-write (c.in_err-size.was tt) in
+    let sent = after_written-write (goal.at.returns-in_err-size c).After-write c.in_err-size.was in
     search rules
 
 pub returns : goal.returns
 returns c =
     let a = c.args in
-    let frame = (take-written (write-called (goal.at.returns c).After-write) (c.in_ok-size.was tt)).1 in
+    let frame = (take-written (write-called (goal.at.returns c).After-write) c.in_ok-size.was).1 in
     c.put.ensures
     ∙ ap (λ (p : List ℕ). putting a.kind p a.out.now) frame
-    ∙ after_written-write (goal.at.returns c).After-write (c.in_ok-size.was tt)
+    ∙ after_written-write (goal.at.returns c).After-write c.in_ok-size.was
