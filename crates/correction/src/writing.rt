@@ -60,6 +60,7 @@ fn put_corrected(s: &[u8], size: usize, out: &mut [u8])
 }
 
 // Writes the frame that s begins with, and its correction behind it; bytes of out after that stay.
+#[tactic(auto, unfolding(codewords::specs::Corrections::correcting_of, codewords::specs::Corrections::put_corrected))]
 pub fn write(f: Format, s: &[u8], out: &mut [u8]) -> Result<usize, Refusal>
     ensures { leaving result out.new ≡ correcting_of f s.now out.old }
 {
@@ -75,6 +76,7 @@ pub fn write(f: Format, s: &[u8], out: &mut [u8]) -> Result<usize, Refusal>
 }
 
 // The check bytes of any word alone, from the first byte of out on.
+#[tactic(auto, unfolding(codewords::specs::Corrections::checking_of))]
 pub fn check_bytes(w: &[u8], out: &mut [u8]) -> Result<usize, Refusal>
     ensures { leaving result out.new ≡ checking_of w.now out.old }
 {

@@ -5,7 +5,7 @@ use Rattle.correction.proofs.rows.Rows.divide.Goals as goal
 pub loop-rest-init : goal.loop-rest-init
 loop-rest-init c =
     elim c.if-w-eq1.branch [
-      then-w-eq1 w ↦ rw (w.m-is, w.rest-is) (turning_odd _ w.if-w-eq1.true w.two_in-m.ensures)
+      | then-w-eq1 w ↦ rw (w.m-is, w.rest-is) (turning_odd _ w.if-w-eq1.true w.two_in-m.ensures)
       | else-w-eq1 w ↦ rw (w.m-is, w.rest-is) (turning_even _ w.if-w-eq1.false)
     ]
 
