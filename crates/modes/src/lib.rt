@@ -6,28 +6,24 @@ ghost use Rattle.modes.specs.Tables.{mode_number, mode_of, format_number, format
 
 use frame::Format;
 
-// The modes of Table 64, in its order.
+// Each table has a function for either way. Not `From` and `TryFrom`: `Format` is another crate's, and `mode_of` and
+// `format_of` refuse no number.
+
+// The modes of Table 64, with its numbers.
 #[derive(Clone, Copy, Debug, PartialEq, Eq)]
 pub enum Mode {
-    R,
-    S,
-    T,
-    C,
-    N,
-    F,
+    R = 0,
+    S = 1,
+    T = 2,
+    C = 3,
+    N = 4,
+    F = 5,
 }
 
 pub fn mode_number(mode: Mode) -> u8
     ensures { result ≡ mode_number mode }
 {
-    match mode {
-        Mode::R => 0,
-        Mode::S => 1,
-        Mode::T => 2,
-        Mode::C => 3,
-        Mode::N => 4,
-        Mode::F => 5,
-    }
+    mode as u8
 }
 
 // The mode of a number; whoever must refuse the numbers above 5 asks before.
@@ -47,18 +43,15 @@ pub fn mode_of(number: u8) -> Mode
 pub fn format_number(format: Format) -> u8
     ensures { result ≡ format_number format }
 {
-    match format {
-        Format::A => 0,
-        Format::B => 1,
-    }
+    format as u8
 }
 
 // The format of a number; whoever must refuse the numbers above 1 asks before.
 pub fn format_of(number: u8) -> Format
     ensures { result ≡ format_of number }
 {
-    if number == 0 {
-        return Format::A;
+    match number {
+        0 => Format::A,
+        _ => Format::B,
     }
-    Format::B
 }
