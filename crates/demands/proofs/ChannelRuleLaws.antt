@@ -56,10 +56,20 @@ no_line b k = (λ e. by (told_none (line_at b k) e), λ h. ap told_line (slice_g
       absurd (zero_not_one (let clash = sym some ∙ none in cc)))
       (λ t. ltb-false k (length (lines_of b)) t)
 
+-- a line is its three parts
+line_same :
+    {i j c d h g : ℕ} → i ≡ j → c ≡ d → h ≡ g → channel_line i c h ≡ channel_line j d g
+line_same p q r = rw (p, q, r)
+
 pub a_line : (x : Option Line) (i c h : ℕ) → (told_line x ≡ told 0 (i ∷ c ∷ h ∷ [])) ↔ (x ≡ Some (channel_line i c h))
 a_line x i c h = (there x, λ e. ap told_line e) where
   there : (x : Option Line) → told_line x ≡ told 0 (i ∷ c ∷ h ∷ []) → x ≡ Some (channel_line i c h)
-  there (Some x) e = let row = ap (λ (t : Told ℕ). t.results) e in cc
+  there (Some x) e =
+      let row = ap (λ (t : Told ℕ). t.results) e in
+      let index : x.index ≡ i = cc in
+      let channel : x.channel ≡ c = cc in
+      let hertz : x.hertz ≡ h = cc in
+      ap Some (line_same index channel hertz)
   there None e = absurd (zero_not_one (let n = ap (λ (t : Told ℕ). t.number) e in cc))
 
 letter_some : (x : ℕ) → 65 ≤ x → x ≤ 68 → letter_of x ≡ None → ⊥

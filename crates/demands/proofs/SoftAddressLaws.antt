@@ -8,7 +8,7 @@
 --     listed_alone        the one on the list is wanted, and the other is not
 --     entries_apart       where both are wanted, each has an entry of its own
 -- Assumes nothing.
-use mathlib.Core.Bool.{true}
+use mathlib.Core.Bool.{Bool, true, false}
 use mathlib.Core.List.{List, []}
 use mathlib.Core.Logic.{◌⊎◌, inl, inr}
 use mathlib.Core.Path.{◌≡◌, refl, sym, ◌∙◌, ap}
