@@ -23,7 +23,6 @@ use Rattle.blocks.specs.Spans.{size_of, cut, block_ok, first_wrong, payload}
 use Rattle.line.specs.Encoding.{encoding}
 use Rattle.line.proofs.TripLaws.{length-encoding}
 use Rattle.frame.specs.declared.Format.{Format}
-use Rattle.frame.specs.declared.Frame.{Frame}
 use Rattle.frame.specs.Formats.{sizes, frame_size}
 use Rattle.frame.specs.Frames.{frame_of, content_in, FrameAt}
 use Rattle.frame.specs.Judging.{by_checks, by_length, judge_of}

@@ -4,6 +4,7 @@
 --     Justified b o        an outcome o of a call, a search if b: what it accepts is such a frame, of a kind that this
 --                          call looks for, and its memory begins with the content
 --     ..-justified         so are the definitions of receiving, from the bytes read up to the call
+--     accepted_heard       so is what a call accepts
 --     heard_exactly        the two in one statement
 use Rattle.std.specs.Prelude.{Result, Ok, Err}
 use Rattle.answers.specs.declared.Refusal.{Refusal}
@@ -178,6 +179,14 @@ module _ (s : List ℕ) (start a : ℕ) (d : List ℕ) where
       ∙ receiving_of_heard h
       ∙ ap (λ (y : ℕ). leaving (Ok (reception k place t z y)) (c ++ drop y d)) h.count
       ∙ ap (λ (x : List ℕ). leaving (Ok (reception k place t z n)) x) (sym memory)
+
+  -- what a call accepts is such a frame, whatever it left in the memory
+  pub accepted_heard :
+      (j k : Kind) (place t z n : ℕ) → (receiving_of j s start a d).answer ≡ Ok (reception k place t z n)
+      → (c : List ℕ) × Heard s start a d k place t z n c
+  accepted_heard j k place t z n e =
+      let w = subst (Owed (searched j) (receiving_of j s start a d).memory) e (receiving_of_justified (searched j)) in
+      (w.0, w.1.0)
 
   -- accepted with these values and the memory m exactly when such a frame stands there, of a kind that is looked for
   pub heard_exactly :
