@@ -12,7 +12,7 @@ use native.Mathlib.Nat.{zero-add}
 use native.Mathlib.Omega.{arith}
 use lib.Bits.{bit_xor, xor_shifted, xor_zero_r}
 use lib.Dec.{T}
-use lib.ListN.{length, replicate}
+use lib.ListN.{replicate}
 use Rattle.ground.specs.Sums.{xors}
 use Rattle.ground.proofs.TableLaws.{all_below, all_below_at, passed}
 use Rattle.address.specs.Names.{same_bytes}

@@ -8,12 +8,12 @@
 --     turning_end     where none is left, m is the word's remainder
 -- Assumes nothing.
 use mathlib.Core.Path.{◌≡◌, refl, sym, ap, ap₂, ◌∙◌}
-use mathlib.Core.List.{List, [], ◌∷◌, ◌++◌, append_assoc}
-use Prim.Native.Nat.{ℕ, ◌+◌, ◌-◌, ◌/◌, ◌%◌, ◌≤◌, ◌<◌}
+use mathlib.Core.List.{List, [], ◌∷◌, ◌++◌}
+use Prim.Native.Nat.{ℕ, ◌-◌, ◌/◌, ◌%◌, ◌≤◌, ◌<◌}
 use native.Mathlib.Omega.{arith}
 use lib.Bits.{bit_xor, xor_lt}
 use lib.ListN.{length, get_or, take, drop, replicate, length-drop}
-use lib.Seq.{take-suc, take_all}
+use lib.Seq.{take_all}
 use Rattle.ground.specs.Sums.{xors}
 use Rattle.codewords.specs.CheckBytes.{generator, rem_of, checks_of}
 use Rattle.codewords.proofs.StepLaws.{two_steps, zero_first, rem_of-append}

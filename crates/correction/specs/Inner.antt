@@ -4,7 +4,7 @@
 --     half k h           two bytes of which only a half is not 0, the half-byte h: the upper half of the first byte for
 --                        k = 0, its lower half for 1, those of the second byte for 2 and 3
 --     RowsOk rows        the table of the division: its rows are the check bytes of these, for k = 0 first
-use Rattle.std.specs.Prelude.{List, [], ◌∷◌, ◌++◌, ◌≡◌, ℕ, zero, suc, ◌+◌, ◌*◌, ◌<◌, length, get_or}
+use Rattle.std.specs.Prelude.{List, [], ◌∷◌, ◌++◌, ◌≡◌, ℕ, zero, suc, ◌+◌, ◌*◌, ◌<◌, get_or}
 use Rattle.address.specs.Keys.{key_bytes}
 use Rattle.codewords.specs.CheckBytes.{checks_of}
 use Rattle.correction.specs.declared.division.Remainder.{Remainder}

@@ -1,9 +1,10 @@
-// The remainder of a word, with 32 zero bytes behind it, divided by the generator.
+// Check bytes: the remainder of a word, with 32 zero bytes behind it, divided by the generator.
 ghost use Rattle.std.specs.Prelude.{◌≡◌, ◌∷◌, ◌++◌, [], ◌<◌, ◌%◌, length, drop, take};
 ghost use Rattle.ground.specs.Sums.{xors};
 ghost use Rattle.codewords.specs.CheckBytes.{generator, rem_of, checks_of};
 ghost use Rattle.correction.specs.Inner.{bytes_of, row_at};
 
+use crate::CHECKS;
 use crate::rows::Rows;
 use std::ops::BitXor;
 
@@ -50,9 +51,22 @@ impl Remainder {
             d: self.d << 16,
         }
     }
+
+    // The 32 bytes, highest power first.
+    fn to_bytes(self) -> [u8; CHECKS]
+        ensures { result ≡ bytes_of self }
+    {
+        let mut bytes = [0; CHECKS];
+        bytes[..8].copy_from_slice(&self.a.to_be_bytes());
+        bytes[8..16].copy_from_slice(&self.b.to_be_bytes());
+        bytes[16..24].copy_from_slice(&self.c.to_be_bytes());
+        bytes[24..].copy_from_slice(&self.d.to_be_bytes());
+        bytes
+    }
 }
 
 impl Rows {
+    // Row t, as the remainder that it is.
     fn row(&self, t: usize) -> Remainder
         requires { t < 64 }
         ensures { result ≡ row_at self.now.rows t }
@@ -99,9 +113,9 @@ impl Rows {
     }
 }
 
-// The same, with the table copied once.
-pub(crate) fn divide(w: &[u8]) -> Remainder
-    ensures { bytes_of result ≡ checks_of w.now }
+// The check bytes of a word of any length, that of the highest power first.
+pub fn checks(w: &[u8]) -> [u8; CHECKS]
+    ensures { result ≡ checks_of w.now }
 {
-    Rows::new().divide(w)
+    Rows::new().divide(w).to_bytes()
 }
