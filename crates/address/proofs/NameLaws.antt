@@ -6,11 +6,11 @@
 --     name_bytes_name_at      the bytes of a name that was read are those that stood there
 --     length_name_of, get_or_name_of    M and A of a content are eight bytes, from its byte 1 on
 --     same_bytes_self, same_bytes_equal    the same bytes are those that are equal
---     same_bytes_next, same_bytes_differ, same_bytes_end    at a place: two bytes that agree, two that differ, none
---                                                           left
+--     bytes_eq-same_bytes    the same bytes are those that Rust's comparison finds equal
 use mathlib.Core.List.{List, [], ◌∷◌, ◌++◌}
 use mathlib.Core.Path.{◌≡◌, refl, ◌∙◌, ap}
-use mathlib.Core.Bool.{true, false, false≢true}
+use mathlib.Core.Bool.{true, false, false≢true, ◌&&◌}
+use Rattle.std.specs.Str.{bytes_eq}
 use Prim.Native.Nat.{ℕ, zero, suc, ◌+◌, ◌*◌, ◌/◌, ◌%◌, ◌<◌, ◌≤◌}
 use native.Mathlib.Numerals.{add-one, add-two, add-three, add-four, add_five, add_six, add_seven}
 use native.Mathlib.Omega.{arith}
@@ -74,16 +74,9 @@ same_bytes_equal (x ∷ a) (y ∷ b) e =
     let tail : a ≡ b = same_bytes_equal a b (and_right (eqb x y) _ e) in
     cc
 
-module _ (a b : List ℕ) (i : ℕ) (p : i < length a) (q : i < length b) where
-  pub same_bytes_next :
-      get_or a i 0 ≡ get_or b i 0 → same_bytes (drop (i + 1) a) (drop (i + 1) b) ≡ same_bytes (drop i a) (drop i b)
-  unfolding same_bytes
-  same_bytes_next e = rw (add-one i, drop-cons a i 0 p, drop-cons b i 0 q, eq-eqb _ _ e)
-
-  pub same_bytes_differ : (get_or a i 0 ≡ get_or b i 0 → ⊥) → same_bytes (drop i a) (drop i b) ≡ false
-  unfolding same_bytes
-  same_bytes_differ e = rw (drop-cons a i 0 p, drop-cons b i 0 q, ne_eqb _ _ e)
-
-pub same_bytes_end : (a b : List ℕ) (i : ℕ) → length a ≤ i → length b ≤ i → same_bytes (drop i a) (drop i b) ≡ true
+pub bytes_eq-same_bytes : (a b : List ℕ) → bytes_eq a b ≡ same_bytes a b
 unfolding same_bytes
-same_bytes_end a b i p q = rw (drop_of_length-le a {i = i} p, drop_of_length-le b {i = i} q)
+bytes_eq-same_bytes [] [] = refl
+bytes_eq-same_bytes [] (y ∷ b) = refl
+bytes_eq-same_bytes (x ∷ a) [] = refl
+bytes_eq-same_bytes (x ∷ a) (y ∷ b) = ap (λ t. eqb x y && t) (bytes_eq-same_bytes a b)

@@ -1,6 +1,5 @@
 -- A content is wanted exactly when its bytes 1 to 8 equal an entry in use (document 01, "Meter filter").
 --     verdict_of_judged     where the call is in order, the list decides
---     verdict_of_rest       the entries that are left decide, where they decide as all do
 --     Meant es n s         the call is in order and the name of s is in use
 --     VerdictGrounds es n s v    the grounds on which s gets the verdict v
 --     verdict_of_wanted     the answer is yes exactly when it is meant
@@ -26,12 +25,6 @@ pub verdict_of_judged :
     (es : List (List ℕ)) (n : ℕ) (s : List ℕ) → n ≤ 16 → 9 ≤ length s
     → verdict_of es n s ≡ Ok (listed (name_of s) (take n es))
 verdict_of_judged es n s p q = rw (le-ltb 16 n p, le-ltb (length s) 9 q)
-
-pub verdict_of_rest :
-    (es : List (List ℕ)) (n k : ℕ) (s : List ℕ) {t : Bool} → n ≤ 16 → 9 ≤ length s
-    → listed (name_of s) (drop k (take n es)) ≡ listed (name_of s) (take n es)
-    → listed (name_of s) (drop k (take n es)) ≡ t → Ok t ≡ verdict_of es n s
-verdict_of_rest es n k s p q rest e = sym (verdict_of_judged es n s p q ∙ rw (sym rest ∙ e))
 
 pub record Meant (es : List (List ℕ)) (n : ℕ) (s : List ℕ) : Type 0 where
   pub counted : n ≤ 16

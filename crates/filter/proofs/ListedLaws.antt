@@ -1,5 +1,5 @@
--- Lists of entries: what each turn of the filter's loop does, and what it is to be listed.
---     listed_next, listed_here, listed_end    at a place: an entry that is not the name, one that is, no entry left
+-- Lists of entries: what it is to be listed.
+--     any_listed          b is listed exactly if the comparison with it finds some entry
 --     InUse es n b        one of the first n of es is b: which one, that it is in use, that it is b
 --     in_use_listed, listed_in_use    the first n of es list b exactly then
 use mathlib.Core.List.{List, [], ◌∷◌}
@@ -11,13 +11,20 @@ use native.Mathlib.Omega.{arith}
 use lib.ListN.{length, get_or, take, drop, drop_of_length-le}
 use lib.Seq.{length-take-le, drop-cons, get_or-take}
 use Rattle.address.specs.Names.{same_bytes}
-use Rattle.address.proofs.NameLaws.{same_bytes_self, same_bytes_equal}
+use Rattle.std.specs.Str.{bytes_eq}
+use Rattle.std.specs.List.{list_any}
+use Rattle.address.proofs.NameLaws.{same_bytes_self, same_bytes_equal, bytes_eq-same_bytes}
 use Rattle.filter.specs.Listed.{listed}
 
 pub record InUse (es : List (List ℕ)) (n : ℕ) (b : List ℕ) : Type 0 where
   pub at : ℕ
   pub used : at < n
   pub is : get_or es at [] ≡ b
+
+pub any_listed : (b : List ℕ) (es : List (List ℕ)) → list_any (λ e. bytes_eq e b) es ≡ listed b es
+unfolding listed
+any_listed b [] = refl
+any_listed b (e ∷ es) = rw (bytes_eq-same_bytes e b, any_listed b es)
 
 -- an entry that is there is found
 listed_has : (b : List ℕ) (es : List (List ℕ)) (k : ℕ) → k < length es → get_or es k [] ≡ b → listed b es ≡ true
@@ -53,18 +60,3 @@ module _ (es : List (List ℕ)) (n : ℕ) (b : List ℕ) (fits : n ≤ length es
       let u = listed_found b (take n es) e in
       let below : u.at < n = rw length_in_use at u.used in
       record { at = u.at; used = below; is = sym (get_or-take n es u.at [] below) ∙ u.is }
-
-  module _ (k : ℕ) where
-    pub listed_next :
-        k < n → same_bytes (get_or es k []) b ≡ false
-        → listed b (drop (k + 1) (take n es)) ≡ listed b (drop k (take n es))
-    unfolding listed
-    listed_next p e = rw (add-one k, drop-cons (take n es) k [] (rw length_in_use p), get_or-take n es k [] p, e)
-
-    pub listed_here : k < n → same_bytes (get_or es k []) b ≡ true → listed b (drop k (take n es)) ≡ true
-    unfolding listed
-    listed_here p e = rw (drop-cons (take n es) k [] (rw length_in_use p), get_or-take n es k [] p, e)
-
-    pub listed_end : n ≤ k → listed b (drop k (take n es)) ≡ false
-    unfolding listed
-    listed_end p = rw (drop_of_length-le (take n es) {i = k} (rw length_in_use p))

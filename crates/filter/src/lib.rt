@@ -3,10 +3,18 @@
 #![tactic(auto)]
 
 ghost use Rattle.std.specs.Prelude.{◌≡◌, ◌<◌, length};
-ghost use Rattle.address.specs.Names.{name_of, same_bytes};
+ghost use Rattle.std.specs.Str.{bytes_eq};
+ghost use Rattle.std.specs.List.{list_any};
+ghost use Rattle.address.specs.Names.{name_of};
 ghost use Rattle.filter.specs.Listed.{verdict_of};
 
 use answers::Refusal;
+
+fn is_listed(name: &[u8], entries: &[[u8; 8]]) -> bool
+    ensures { result ≡ list_any (λ e. bytes_eq e name.now) entries.now }
+{
+    entries.iter().any(|entry| entry.as_slice() == name)
+}
 
 // Whether the content comes from a meter that the first `count` entries list: its M and A are bytes 1 to 8. Sixteen
 // entries by value and a count beside them are the form that document 01, "Meter filter", asks for.
@@ -19,6 +27,5 @@ pub fn wanted(entries: [[u8; 8]; 16], count: usize, content: &[u8]) -> Result<bo
     if content.len() < 9 {
         return Err(Refusal::BadContent);
     }
-    let name = &content[1..9];
-    Ok(entries[..count].iter().any(|entry| entry.as_slice() == name))
+    Ok(is_listed(&content[1..9], &entries[..count]))
 }
