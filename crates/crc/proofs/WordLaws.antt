@@ -8,6 +8,7 @@
 --     adds_then          bytes behind bytes
 --     number_lt          a number of bytes has eight digits for each
 --     adds_number        a number of bytes with one more byte behind it
+--     adds_word          a word of four bytes
 --     adds_start         the bytes from the start on
 --     adds_two, adds_four, adds_only   two words of four bytes; two more behind others; two that are all
 --     group_behind       sixteen bytes behind a word: one turn of the loop over groups
@@ -100,6 +101,25 @@ adds_number s at k w small inside byte before =
     sym (byte_in_parts (bits_in 16 (remainder w)) b byte) ∙ word_byte w b small byte in
     rw (← whole) (adds_then s at k 1 (bits_in 16 (remainder w)) (bits_in 16 b) before
     (adds_byte s (at + k) inside byte))
+
+-- a word of four bytes
+pub adds_word :
+    (s : List ℕ) (at v : ℕ) → at + 4 ≤ length s → ((i : ℕ) → get_or s i 0 < 256)
+    → v
+    ≡ ((get_or s at 0 * 256 + get_or s (at + 1) 0) * 256 + get_or s (at + 2) 0) * 256 + get_or s (at + 3) 0
+    → Adds s at 4 (bits_in 16 (remainder v))
+adds_word s at v inside byte e =
+    let b : ℕ → ℕ = λ i. get_or s (at + i) 0 in
+    let lt : (i : ℕ) → b i < 256 = λ i. byte (at + i) in
+    let w₁ = 0 * 256 + b 0 in
+    let w₂ = w₁ * 256 + b 1 in
+    let w₃ = w₂ * 256 + b 2 in
+    let same : w₃ * 256 + b 3 ≡ v = omega (arith, ap (λ (i : ℕ). get_or s i 0) (add-zero at)) in
+    rw (← same)
+    (adds_number s at 3 w₃ (omega (arith, lt 0, lt 1, lt 2)) (omega arith) (lt 3)
+    (adds_number s at 2 w₂ (omega (arith, lt 0, lt 1)) (omega arith) (lt 2)
+    (adds_number s at 1 w₁ (omega (arith, lt 0)) (omega arith) (lt 1)
+    (adds_number s at 0 0 (omega arith) (omega arith) (lt 0) (adds_none s at)))))
 
 pub adds_start : (s : List ℕ) (k z : ℕ) → Adds s 0 k z → reg_of z (drop k s) ≡ reg_of 0 s
 adds_start s k z adds =

@@ -2,7 +2,6 @@
 ghost use Rattle.std.specs.Prelude.{◌≡◌, ◌≤◌};
 ghost use Rattle.crc.specs.Check.{bit_in};
 ghost use Rattle.crc.specs.CheckUpdate.{share_of, farthest};
-ghost use Rattle.crc.specs.Inner.{Ones};
 
 // x^13+x^12+x^11+x^10+x^8+x^6+x^5+x^2+1: the polynomial of 12.5.7 without its highest term.
 const POLYNOMIAL: u16 = 0x3D65;
@@ -18,20 +17,12 @@ fn bit_in(reg: u16) -> u16
     }
 }
 
-// The shares of the byte 01, for every distance.
-fn ones() -> [u16; 126]
-    ensures { Ones result }
-{
-    ONES
-}
-
 // What the byte 01 with `distance` bytes behind it adds to the register.
 fn share_of_one(distance: usize) -> u16
     requires { distance ≤ farthest }
     ensures { result ≡ share_of 1 distance }
 {
-    let shares = ones();
-    shares[distance]
+    ONES[distance]
 }
 
 // The share of any byte, by Horner's rule: a register step for each bit from the highest, plus the share of 01 where
@@ -42,10 +33,8 @@ pub(crate) fn share(x: u8, distance: usize) -> u16
 {
     let one = share_of_one(distance);
     let mut sum: u16 = 0;
-    let mut k: u32 = 8;
-    while 0 < k {
-        k -= 1;
-        sum = bit_in(sum) ^ ((x >> k) % 2) as u16 * one;
+    for k in (0..8u32).rev() {
+        sum = bit_in(sum) ^ u16::from((x >> k) % 2) * one;
     }
     sum
 }

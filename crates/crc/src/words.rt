@@ -7,18 +7,24 @@ ghost use Rattle.std.specs.Int.Bits.{bit_xor};
 ghost use Rattle.crc.specs.Check.{bits_in};
 ghost use Rattle.crc.specs.Inner.{remainder, nested, Adds, folded};
 
-// k bytes from place `at` on as one number, the first byte highest.
-fn number(s: &[u8], at: usize, k: usize) -> u64
-    requires { (k < 8) × (at + k ≤ length s.now) }
-    ensures { Adds s.now at k (bits_in 16 (remainder result)) × (result < 2 ^ (8 * k)) }
+// The first k bytes as one number, the first one highest.
+fn number(s: &[u8], k: usize) -> u64
+    requires { (k < 8) × (k ≤ length s.now) }
+    ensures { Adds s.now 0 k (bits_in 16 (remainder result)) × (result < 2 ^ (8 * k)) }
 {
     let mut w: u64 = 0;
-    let mut i: usize = 0;
-    while i < k {
-        w = w * 256 + s[at + i] as u64;
-        i += 1;
+    for i in 0..k {
+        w = w * 256 + u64::from(s[i]);
     }
     w
+}
+
+// Four bytes from place `at` on as one number, the first byte highest.
+fn word(s: &[u8], at: usize) -> u64
+    requires { at + 4 ≤ length s.now }
+    ensures { Adds s.now at 4 (bits_in 16 (remainder result)) × (result < 2 ^ 32) }
+{
+    u64::from(u32::from_be_bytes([s[at], s[at + 1], s[at + 2], s[at + 3]]))
 }
 
 // A word with n digits behind it, where x^n leaves the same as five powers below x^32. They are named by what each has
@@ -66,10 +72,10 @@ pub(crate) fn group(s: &[u8], at: usize) -> u64
     ensures adds { Adds s.now at 16 (remainder result) }
     ensures upper_bound { result < folded }
 {
-    let p = number(s, at, 4);
-    let q = number(s, at + 4, 4);
-    let r = number(s, at + 8, 4);
-    let t = number(s, at + 12, 4);
+    let p = word(s, at);
+    let q = word(s, at + 4);
+    let r = word(s, at + 8);
+    let t = word(s, at + 12);
     four(p, q, r, t)
 }
 
@@ -80,14 +86,14 @@ pub(crate) fn lead(s: &[u8], k: usize) -> u64
     ensures upper_bound { result < folded }
 {
     let rest = k % 8;
-    let w = number(s, 0, rest);
+    let w = number(s, rest);
     let high = w >> 32;
     let low = w % 0x1_0000_0000;
     if k < 8 {
         return four(0, 0, high, low);
     }
-    let r = number(s, rest, 4);
-    let t = number(s, rest + 4, 4);
+    let r = word(s, rest);
+    let t = word(s, rest + 4);
     four(high, low, r, t)
 }
 
@@ -102,11 +108,9 @@ pub(crate) fn left_by(v: u64) -> u16
     let high = moved(v >> 40, 40, 12, 1, 7, 1, 1); // x^40 = x^22 + x^10 + x^9 + x^2 + x
     let u = (v % 0x100_0000_0000) ^ high;
     let mut sum = u;
-    let mut j: u32 = 0;
-    while j < 3 {
+    for j in 0..3u32 {
         let b = ((u >> (16 + 8 * j)) % 256) as u8;
-        sum = sum ^ (checktable::row(b) >> (16 * j));
-        j += 1;
+        sum ^= checktable::row(b) >> (16 * j);
     }
     (sum % 65536) as u16
 }

@@ -11,7 +11,7 @@ pub loop-k-init : goal.loop-k-init
 loop-k-init c =
     let a = c.args in
     let none : a.x / 256 ≡ 0 = omega arith in
-    (search rules, sym (ap (λ (y : ℕ). share_of y a.distance) none ∙ share_of_zero a.distance))
+    sym (ap (λ (y : ℕ). share_of y a.distance) none ∙ share_of_zero a.distance)
 
 pub overflow_mul-sum : goal.overflow_mul-sum
 overflow_mul-sum c = record { fits = bit-mul-lt _ _ (search rules) (search rules) }
@@ -19,15 +19,13 @@ overflow_mul-sum c = record { fits = bit-mul-lt _ _ (search rules) (search rules
 pub loop-k-preserved : goal.loop-k-preserved
 loop-k-preserved c =
     let at = c.loop-k in
-    let a = c.args in (
-      search rules,
-      rw (c.bit_in.ensures, at.invariant.1, c.share_of_one-one.ensures)
-          (share_of_next a.x at.k a.distance (omega arith) (omega arith)),
-    )
+    let a = c.args in
+    rw (c.bit_in.ensures, at.invariant, c.from.ensures, c.share_of_one-one.ensures)
+    (share_of_next a.x at.k a.distance (omega arith) (omega arith))
 
 pub returns : goal.returns
 returns c =
     let at = c.loop-k in
     let a = c.args in
     let all : a.x / 2 ^ at.k ≡ a.x = ap (λ (j : ℕ). a.x / 2 ^ j) {y = 0} (omega arith) ∙ div-one a.x in
-    at.invariant.1 ∙ ap (λ (y : ℕ). share_of y a.distance) all
+    at.invariant ∙ ap (λ (y : ℕ). share_of y a.distance) all

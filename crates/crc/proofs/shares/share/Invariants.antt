@@ -1,12 +1,9 @@
 -- `crc::shares::share` meets its contract. The loop's invariant: the sum is the share of the bits of x above the
--- lowest k. The measure is k. Assumes nothing.
+-- lowest k. Assumes nothing.
 use mathlib.Core.Path.{◌≡◌}
-use Prim.Native.Nat.{◌/◌, ◌^◌, ◌≤◌}
+use Prim.Native.Nat.{◌/◌, ◌^◌}
 use Rattle.crc.specs.CheckUpdate.{share_of}
 use Rattle.crc.proofs.shares.share.Given as goal
 
 abbrev pub invariant-loop-k : goal.invariant-loop-k
-invariant-loop-k l = (l.k ≤ 8) × (l.sum ≡ share_of (l.x / 2 ^ l.k) l.distance)
-
-abbrev pub decreases-loop-k : goal.decreases-loop-k
-decreases-loop-k l = l.k
+invariant-loop-k l = l.sum ≡ share_of (l.x / 2 ^ l.k) l.distance

@@ -9,11 +9,11 @@ use Rattle.crc.proofs.words.group.Goals as goal
 pub returns : goal.returns
 returns c =
     let a = c.args in record {
-      adds = adds_four a.s.now a.at 8 (a.at + 8) (a.at + 12) (remainder c.number-p.result)
-          (remainder c.number-q.result) (remainder c.number-r.result) (remainder c.number-t.result)
+      adds = adds_four a.s.now a.at 8 (a.at + 8) (a.at + 12) (remainder c.word-p.result)
+          (remainder c.word-q.result) (remainder c.word-r.result) (remainder c.word-t.result)
           (remainder c.four.result) refl (omega arith)
-          (adds_two a.s.now a.at (remainder c.number-p.result) (remainder c.number-q.result)
-          c.number-p.ensures.0 c.number-q.ensures.0) c.number-r.ensures.0 c.number-t.ensures.0
+          (adds_two a.s.now a.at (remainder c.word-p.result) (remainder c.word-q.result)
+          c.word-p.ensures.0 c.word-q.ensures.0) c.word-r.ensures.0 c.word-t.ensures.0
           c.four.ensures.result_value;
       upper_bound = c.four.ensures.upper_bound;
     }

@@ -25,9 +25,9 @@ returns c =
     let all : a.k % 8 + 8 ≡ a.k = omega arith in record {
       adds = rw (← all)
           (adds_four a.s.now 0 (a.k % 8) (a.k % 8) (a.k % 8 + 4) (remainder (w / 2 ^ 32))
-          (remainder (w % 2 ^ 32)) (remainder c.number-r.result) (remainder c.number-t.result)
+          (remainder (w % 2 ^ 32)) (remainder c.word-r.result) (remainder c.word-t.result)
           (remainder c.four-2.result) (omega arith) refl
-          (rw (← remainder_parts 32 w (omega arith) (omega arith)) c.number-w.ensures.0) c.number-r.ensures.0
-          c.number-t.ensures.0 c.four-2.ensures.result_value);
+          (rw (← remainder_parts 32 w (omega arith) (omega arith)) c.number-w.ensures.0) c.word-r.ensures.0
+          c.word-t.ensures.0 c.four-2.ensures.result_value);
       upper_bound = c.four-2.ensures.upper_bound;
     }

@@ -24,20 +24,18 @@ unfolding bit_in bits_in nested
 moved-high-requires c = record { w_bound = search rules; n_value = refl }
 
 pub loop-j-init : goal.loop-j-init
-loop-j-init c = (omega arith, rows_start (u-of (goal.at.loop-j-init c).After-moved-high))
+loop-j-init c = rows_start (u-of (goal.at.loop-j-init c).After-moved-high)
 
 pub loop-j-preserved : goal.loop-j-preserved
 loop-j-preserved c =
-    let at = c.loop-j in (
-      omega arith,
-      rw c.row.ensures (rows_step (u-of (goal.at.loop-j-preserved c).After-moved-high) at.sum at.j
-          (u-lt (goal.at.loop-j-preserved c).After-moved-high) (omega arith) at.invariant.1),
-    )
+    let at = c.loop-j in
+    rw c.row.ensures (rows_step (u-of (goal.at.loop-j-preserved c).After-moved-high) at.sum at.j
+    (u-lt (goal.at.loop-j-preserved c).After-moved-high) (omega arith) at.invariant)
 
 pub returns : goal.returns
 returns c =
     let at = c.loop-j in
     let all : at.j ≡ 3 = omega arith in
-    at.invariant.1 ∙ ap (low_rows (u-of (goal.at.returns c).After-moved-high)) all
+    at.invariant ∙ ap (low_rows (u-of (goal.at.returns c).After-moved-high)) all
     ∙ rows_end (u-of (goal.at.returns c).After-moved-high) (u-lt (goal.at.returns c).After-moved-high)
     ∙ down_leaves c.args.v c.moved-high.result (omega arith) c.moved-high.ensures.result_value

