@@ -2,6 +2,7 @@
 use mathlib.Core.Path.{ap}
 use Prim.Native.Nat.{ℕ}
 use native.Mathlib.Omega.{arith}
+use Rattle.std.proofs.Common.{rules}
 use borrow.Author.Tests.{lt-leb}
 use Rattle.std.specs.Prelude.{Result}
 use Rattle.answers.specs.Outcome.{Outcome}
@@ -15,6 +16,6 @@ returns-in-Ok c =
     let before = c.requires in
     lt-leb _ a.first
     (second_after before.0 a.file.now a.a a.first _ (omega (arith, c.ranges.a)) before.1.0
-    (λ j. omega (arith, c.shared_slice_known-1.given j)) before.1.1
+    (λ j. search rules) before.1.1
     (ap (λ (o : Outcome (Result ℕ Refusal)). o.memory) c.restore.ensures)
     (ap (λ (o : Outcome (Result ℕ Refusal)). o.answer) c.issue.ensures) c.in-Ok.is)
