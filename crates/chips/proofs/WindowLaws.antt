@@ -1,5 +1,5 @@
 -- Whole bytes of chips as one number, and the words that stand in them (specs/Chips).
---     word_at_lt, -lt-pow    a word of w chips is below 2 ^ w, and below 2 ^ k where w is at most k
+--     word_at_lt             a word of w chips is below 2 ^ w
 --     word_at_behind         behind the end every chip is 0
 --     word_at_byte           the eight chips of the byte at q make that byte
 --     word_at_grow           n whole bytes grow by the byte behind them
@@ -15,12 +15,12 @@ use mathlib.Core.Bool.{Bool, true, false}
 use mathlib.Core.Path.{◌≡◌, refl, ap, sym, ◌∙◌}
 use mathlib.Core.List.{List, [], ◌∷◌}
 use Prim.Native.Nat.{ℕ, zero, suc, ◌+◌, ◌*◌, ◌-◌, ◌/◌, ◌%◌, ◌^◌, ◌≤◌, ◌<◌}
-use native.Mathlib.Nat.{zero-div, mod-eq_of_lt, lt_of_lt_of_le}
+use native.Mathlib.Nat.{zero-div, mod-eq_of_lt}
 use native.Mathlib.Omega.{arith}
 use borrow.Author.Tests.{ltb-true, ltb-false}
 use lib.Dec.{ltb}
 use lib.ListN.{length, get_or, get_or-eq_default}
-use lib.Pow.{field, pow_mono, shl-shr, shr-shr}
+use lib.Pow.{field, shl-shr, shr-shr}
 use Rattle.std.proofs.Common.{Fits, w8, w32, w64, take, drop, ◌++◌, replicate, length-drop}
 use Rattle.std.proofs.Math.Seq.{take-length}
 use Rattle.std.proofs.lemmas.List.{get_or_append_left, get_or-append_right, get_or-drop}
@@ -31,9 +31,6 @@ use Rattle.chips.proofs.PackingLaws.{gather_none, gather_spread}
 
 pub word_at_lt : (s : List ℕ) (at w : ℕ) → word_at s at w < 2 ^ w
 word_at_lt s at w = gather-lt (chip_at s) (chip_at-lt s) at w
-
-pub word_at_lt_pow : (s : List ℕ) (at w k : ℕ) → w ≤ k → word_at s at w < 2 ^ k
-word_at_lt_pow s at w k h = lt_of_lt_of_le (word_at_lt s at w) (pow_mono {i = w} {j = k} h)
 
 pub word_at_behind : (s : List ℕ) (at w : ℕ) → 8 * length s ≤ at → word_at s at w ≡ 0
 word_at_behind s at w h =

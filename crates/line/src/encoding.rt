@@ -32,13 +32,11 @@ fn coded_byte(code: Code, s: &[u8], i: usize) -> usize
     let b = code.bits();
     let w = code.width();
     let m = code.per_byte();
-    let x = chips::wide(s[i]);
+    let x = usize::from(s[i]);
     let mut all: usize = 0;
-    let mut k: usize = 0;
-    while k < m {
+    for k in 0..m {
         let word = code.word_of(digits::part(x, b, 8 - b - k * b));
         all = digits::join(all, w, word);
-        k += 1;
     }
     all
 }
@@ -53,8 +51,7 @@ fn pour(code: Code, s: &[u8], size: usize, out: &mut [u8])
     let mut held: usize = 0;
     let mut count: usize = 0;
     let mut i: usize = 0;
-    let mut j: usize = 0;
-    while j < size {
+    for j in 0..size {
         if count < 8 {
             held = digits::join(held, unit, coded_byte(code, s, i));
             count += unit;
@@ -63,7 +60,6 @@ fn pour(code: Code, s: &[u8], size: usize, out: &mut [u8])
         count -= 8;
         out[j] = digits::part(held, 8, count) as u8;
         held = digits::low(held, count);
-        j += 1;
     }
 }
 

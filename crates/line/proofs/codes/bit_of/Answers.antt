@@ -1,19 +1,19 @@
 -- `line::codes::bit_of` meets its contract: 1 and 2 are the two code words.
 use borrow.Author.Tests.{ne_eqb}
-use mathlib.Core.Path.{sym}
+use native.Mathlib.Omega.{arith}
 use Rattle.line.specs.Codes.{number_for}
 use Rattle.line.proofs.codes.bit_of.Goals as goal
 
-pub returns-then-y-eq1 : goal.returns-then-y-eq1
+pub returns-in-1 : goal.returns-in-1
 unfolding number_for
-returns-then-y-eq1 c = rw c.if-y-eq1.true
+returns-in-1 c = rw c.in-1.is
 
-pub returns-then-y-eq2 : goal.returns-then-y-eq2
+pub returns-in-2 : goal.returns-in-2
 unfolding number_for
-returns-then-y-eq2 c = rw c.if-y-eq2.true
+returns-in-2 c = rw c.in-2.is
 
-pub returns : goal.returns
+pub returns-in_default : goal.returns-in_default
 unfolding number_for
-returns c =
+returns-in_default c =
     let y = c.args.y in
-    rw (ne_eqb 1 y (λ e. c.if-y-eq1.false (sym e)), ne_eqb 2 y (λ e. c.if-y-eq2.false (sym e)))
+    rw (ne_eqb 1 y (λ e. omega arith), ne_eqb 2 y (λ e. omega arith))

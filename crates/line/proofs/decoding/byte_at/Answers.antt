@@ -8,8 +8,7 @@ use Rattle.line.proofs.decoding.byte_at.Goals as goal
 
 pub narrow-requires : goal.narrow-requires
 narrow-requires c =
-    let there = c.requires.1 in
-    (omega arith, (there.0, rw c.in-Nrz.is at there.1))
+    (omega arith, (c.requires.0, rw c.in-Nrz.is at c.requires.1))
 
 pub overflow_cast-result : goal.overflow_cast-result
 overflow_cast-result c =

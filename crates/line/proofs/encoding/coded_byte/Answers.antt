@@ -21,7 +21,7 @@ loop-k-init c =
       w-eq = c.width-w.ensures;
       m-eq = c.per_byte-m.ensures;
     })
-    c.wide-x.ensures
+    (c.from-x.ensures, omega (arith, c.type_inv.s c.args.i))
 
 pub overflow_sub-b : goal.overflow_sub-b
 overflow_sub-b c = omega (arith, coding_inside c.loop-k.invariant c.loop-k-test.true)

@@ -18,7 +18,7 @@ overflow_sub-result c =
     omega arith
 
 pub returns-in-ThreeOfSix : goal.returns-in-ThreeOfSix
-returns-in-ThreeOfSix c = rw c.in-ThreeOfSix.is c.wide.ensures.0
+returns-in-ThreeOfSix c = rw c.in-ThreeOfSix.is c.from.ensures
 
 pub returns-in-Manchester : goal.returns-in-Manchester
 returns-in-Manchester c =
