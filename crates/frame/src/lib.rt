@@ -1,10 +1,12 @@
 // Frames in formats A and B as bytes: read, write, change (EN 13757-4:2019, 12.2 to 12.5; document 01, "Frames",
 // "Changing a byte"). Refusals are those of crate `answers`.
-// What differs between the formats stands in `FormatA` and `FormatB`; all else is written once.
+// What differs between the formats stands in the two impls of `FrameFormat`; all else is written once.
 #![tactic(auto)]
 
 ghost use Rattle.std.specs.Prelude.{◌≡◌, ◌≤◌};
 ghost use Rattle.answers.specs.Outcome.{leaving};
+ghost use Rattle.frame.specs.declared.Format.{Format};
+ghost use Rattle.frame.specs.declared.Format.TheVariants.{A, B};
 ghost use Rattle.frame.specs.Formats.{form_of, frame_size, size_for};
 ghost use Rattle.frame.specs.Judging.{judge_of};
 ghost use Rattle.frame.specs.Reads.{reading_of};
@@ -12,6 +14,7 @@ ghost use Rattle.frame.specs.Writes.{writing_of};
 ghost use Rattle.frame.specs.Changes.{changing_of};
 
 use answers::Refusal;
+use blocks::Cut;
 
 // The two frame formats.
 #[derive(Clone, Copy, Debug, PartialEq, Eq)]
@@ -27,40 +30,62 @@ pub struct Frame {
     pub n: usize,
 }
 
-// Format A: L counts no check; L and nine bytes have the first check, every 16 bytes after them one more.
-#[derive(Clone, Copy)]
-pub struct FormatA {}
+// What a format settles: its limits, and what a content's length and a length byte say of one another and of the frame.
+pub trait FrameFormat {
+    // Which of the two it is.
+    ghost format: { Format };
 
-impl FormatA {
     // The shortest and the longest content.
-    pub const SHORTEST: usize = 10;
+    const SHORTEST: usize;
 
-    pub const LONGEST: usize = 255;
+    const LONGEST: usize;
 
     // How many bytes the first check covers at most, L counted, and how many each later one.
-    pub const FIRST: usize = 10;
+    const FIRST: usize;
 
-    pub const LATER: usize = 16;
+    const LATER: usize;
 
+    // L of a content of n bytes.
     fn length_byte(n: usize) -> u8
-        requires { n ≤ (form_of Format.A).longest }
-        ensures { result ≡ (form_of Format.A).length_byte n }
-    {
+        requires { n ≤ (form_of format).longest }
+        ensures { result ≡ (form_of format).length_byte n };
+
+    // The size of a frame whose content has n bytes.
+    fn size(n: usize) -> usize
+        requires { n ≤ (form_of format).longest }
+        ensures { result ≡ frame_size format n };
+
+    // The size of the frame that begins with the length byte l, and of its content.
+    fn frame_size(l: u8) -> Result<Frame, Refusal>
+        ensures { result ≡ size_for format l };
+}
+
+// Format A: L counts no check; L and nine bytes have the first check, every 16 bytes after them one more.
+#[derive(Clone, Copy, Debug, PartialEq, Eq)]
+pub struct FormatA {}
+
+impl FrameFormat for FormatA {
+    ghost format = { A };
+
+    const SHORTEST: usize = 10;
+
+    const LONGEST: usize = 255;
+
+    const FIRST: usize = 10;
+
+    const LATER: usize = 16;
+
+    fn length_byte(n: usize) -> u8 {
         n as u8
     }
 
     // L, content and the first check, and a check for each begun 16 of the n - 9 bytes behind the first span.
-    fn size(n: usize) -> usize
-        requires { n ≤ (form_of Format.A).longest }
-        ensures { result ≡ frame_size Format.A n }
-    {
+    fn size(n: usize) -> usize {
         n + 3 + 2 * ((n + 6) / 16)
     }
 
-    pub fn frame_size(l: u8) -> Result<Frame, Refusal>
-        ensures { result ≡ size_for Format.A l }
-    {
-        let n = l as usize;
+    fn frame_size(l: u8) -> Result<Frame, Refusal> {
+        let n = usize::from(l);
         if n < Self::SHORTEST {
             return Err(Refusal::BadLength);
         }
@@ -70,23 +95,21 @@ impl FormatA {
 }
 
 // Format B: L counts the checks; L and 125 bytes have the first check, what comes after them the second.
-#[derive(Clone, Copy)]
+#[derive(Clone, Copy, Debug, PartialEq, Eq)]
 pub struct FormatB {}
 
-impl FormatB {
-    // As for format A.
-    pub const SHORTEST: usize = 10;
+impl FrameFormat for FormatB {
+    ghost format = { B };
 
-    pub const LONGEST: usize = 251;
+    const SHORTEST: usize = 10;
 
-    pub const FIRST: usize = 126;
+    const LONGEST: usize = 251;
 
-    pub const LATER: usize = 126;
+    const FIRST: usize = 126;
 
-    fn length_byte(n: usize) -> u8
-        requires { n ≤ (form_of Format.B).longest }
-        ensures { result ≡ (form_of Format.B).length_byte n }
-    {
+    const LATER: usize = 126;
+
+    fn length_byte(n: usize) -> u8 {
         if n < Self::FIRST {
             (n + 2) as u8
         } else {
@@ -94,17 +117,12 @@ impl FormatB {
         }
     }
 
-    fn size(n: usize) -> usize
-        requires { n ≤ (form_of Format.B).longest }
-        ensures { result ≡ frame_size Format.B n }
-    {
+    fn size(n: usize) -> usize {
         if n < Self::FIRST { n + 3 } else { n + 5 }
     }
 
-    pub fn frame_size(l: u8) -> Result<Frame, Refusal>
-        ensures { result ≡ size_for Format.B l }
-    {
-        let l = l as usize;
+    fn frame_size(l: u8) -> Result<Frame, Refusal> {
+        let l = usize::from(l);
         let size = l + 1;
         if l < Self::SHORTEST + 2 {
             return Err(Refusal::BadLength);
@@ -122,23 +140,19 @@ impl FormatB {
 }
 
 impl Format {
-    // How many bytes the first check covers at most, L included.
-    fn first(self) -> usize
-        ensures { result ≡ (form_of self).first }
+    // How many bytes the first check covers at most, L included, and how many each later one.
+    fn cut(self) -> Cut
+        ensures { (result.first ≡ (form_of self).first) × (result.later ≡ (form_of self).later) }
     {
         match self {
-            Format::A => FormatA::FIRST,
-            Format::B => FormatB::FIRST,
-        }
-    }
-
-    // How many bytes each later check covers at most.
-    fn later(self) -> usize
-        ensures { result ≡ (form_of self).later }
-    {
-        match self {
-            Format::A => FormatA::LATER,
-            Format::B => FormatB::LATER,
+            Format::A => Cut {
+                first: FormatA::FIRST,
+                later: FormatA::LATER,
+            },
+            Format::B => Cut {
+                first: FormatB::FIRST,
+                later: FormatB::LATER,
+            },
         }
     }
 
@@ -202,7 +216,7 @@ pub fn judge(f: Format, s: &[u8]) -> Result<Frame, Refusal>
     if s.len() < frame.size {
         return Err(Refusal::Short);
     }
-    match blocks::first_wrong(s, f.first(), f.later(), frame.n + 1) {
+    match f.cut().first_wrong(s, frame.n + 1) {
         Some(block) => Err(Refusal::WrongCheck(block)),
         None => Ok(frame),
     }
@@ -216,7 +230,7 @@ pub fn read(f: Format, s: &[u8], out: &mut [u8]) -> Result<Frame, Refusal>
     if out.len() < frame.n {
         return Err(Refusal::NoRoom);
     }
-    blocks::take_out(s, f.first(), f.later(), frame.n, out);
+    f.cut().take_out(s, frame.n, out);
     Ok(frame)
 }
 
@@ -235,7 +249,7 @@ pub fn write(f: Format, content: &[u8], out: &mut [u8]) -> Result<usize, Refusal
     if out.len() < size {
         return Err(Refusal::NoRoom);
     }
-    blocks::put_all(f.length_byte(n), content, f.first(), f.later(), out);
+    f.cut().put_all(f.length_byte(n), content, out);
     Ok(size)
 }
 
@@ -247,6 +261,6 @@ pub fn change(f: Format, s: &mut [u8], place: usize, byte: u8) -> Result<Frame, 
     if frame.n <= place {
         return Err(Refusal::BadPlace);
     }
-    blocks::set_byte(s, f.first(), f.later(), frame.n + 1, place + 1, byte);
+    f.cut().set_byte(s, frame.n + 1, place + 1, byte);
     Ok(frame)
 }

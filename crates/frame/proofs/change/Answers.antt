@@ -3,7 +3,7 @@
 use mathlib.Core.Path.{sym}
 use native.Mathlib.Omega.{arith}
 use borrow.Author.Rules.{rules}
-use Rattle.frame.proofs.FormatLaws.{one-lt_first, first-le, zero-lt_later, later-le, longest-le}
+use Rattle.frame.proofs.FormatLaws.{first-le, later-le, longest-le}
 use Rattle.frame.proofs.AcceptLaws.{judge_of-accepted, whole_room}
 use Rattle.frame.proofs.ChangeLaws.{changing_of_refused, changing_of_bad_place, change_mends}
 use Rattle.frame.proofs.change.Goals as goal
@@ -28,17 +28,11 @@ pub set_byte-requires : goal.set_byte-requires
 set_byte-requires c =
     let a = c.args in
     let w = judge_of-accepted a.f a.s.now (sym c.in_ok-frame.ensures) in
-    let first = c.first.ensures in
-    let later = c.later.ensures in (
-      (omega (arith, one-lt_first a.f), omega (arith, first-le a.f)),
-      (
-        (omega (arith, zero-lt_later a.f), omega (arith, later-le a.f)),
-        (omega (arith, c.if-frame-place.false), rw (first, later) (whole_room w)),
-      ),
-    )
+    rw (c.cut.ensures.0, c.cut.ensures.1)
+    (first-le a.f, (later-le a.f, (omega (arith, c.if-frame-place.false), whole_room w)))
 
 pub returns : goal.returns
 returns c =
     let a = c.args in
-    rw (c.set_byte.ensures, c.first.ensures, c.later.ensures)
+    rw (c.set_byte.ensures, c.cut.ensures.0, c.cut.ensures.1)
     (sym (change_mends a.f a.s.now a.place a.byte (sym c.in_ok-frame.ensures) c.if-frame-place.false))

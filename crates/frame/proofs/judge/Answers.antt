@@ -7,7 +7,6 @@ use borrow.Author.Rules.{rules}
 use lib.ListN.{length}
 use Rattle.frame.specs.Formats.{frame_size}
 use Rattle.frame.specs.Judging.{by_checks, judge_of}
-use Rattle.frame.proofs.FormatLaws.{one-lt_first, zero-lt_later, longest-le}
 use Rattle.frame.proofs.JudgeLaws.{size_for_accepted, judge_of-nil, judge_of_refused, judge_of_short, judge_of_whole}
 use Rattle.frame.proofs.judge.Goals.{After-first_wrong}
 use Rattle.frame.proofs.judge.Goals as goal
@@ -20,7 +19,7 @@ checked :
     by_checks frame.size frame.n c.first_wrong.result ≡ judge_of a.f a.s.now
 checked c =
     let a = c.args in
-    ap (by_checks _ _) (rw (c.first.ensures, c.later.ensures) at c.first_wrong.ensures)
+    ap (by_checks _ _) (rw (c.cut.ensures.0, c.cut.ensures.1) at c.first_wrong.ensures)
     ∙ sym (judge_of_whole a.f a.s.now (search rules) (sym c.in_ok-frame.ensures) c.if-s-frame.false)
 
 pub returns-then-is_empty : goal.returns-then-is_empty
@@ -43,10 +42,8 @@ first_wrong-requires c =
     let a = c.args in
     let p = size_for_accepted a.f _ (sym c.in_ok-frame.ensures) in
     let fits : frame_size a.f c.in_ok-frame.frame.n ≤ length a.s.now
-    = omega (arith, p.size, c.if-s-frame.false) in (
-      rw c.first.ensures (omega (arith, one-lt_first a.f)),
-      (rw c.later.ensures (zero-lt_later a.f), rw (c.first.ensures, c.later.ensures) fits),
-    )
+    = omega (arith, p.size, c.if-s-frame.false) in
+    rw (c.cut.ensures.0, c.cut.ensures.1) fits
 
 pub returns-in-Some : goal.returns-in-Some
 unfolding by_checks

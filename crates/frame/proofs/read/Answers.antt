@@ -3,7 +3,7 @@
 use mathlib.Core.Path.{sym}
 use borrow.Author.Rules.{rules}
 use Rattle.frame.specs.Frames.{content_in}
-use Rattle.frame.proofs.FormatLaws.{one-lt_first, zero-lt_later}
+use Rattle.frame.proofs.FormatLaws.{one-lt_first}
 use Rattle.frame.proofs.AcceptLaws.{judge_of-accepted, whole_room}
 use Rattle.frame.proofs.ReadLaws.{reading_of_refused, reading_of_no_room, reading_of_accepted}
 use Rattle.frame.proofs.read.Goals as goal
@@ -23,13 +23,11 @@ pub take_out-requires : goal.take_out-requires
 take_out-requires c =
     let a = c.args in
     let w = judge_of-accepted a.f a.s.now (sym c.in_ok-frame.ensures) in
-    let first = c.first.ensures in
-    let later = c.later.ensures in
-    (rw first (one-lt_first a.f), (rw later (zero-lt_later a.f), (c.if-out-frame.false, rw (first, later) (whole_room w))))
+    rw (c.cut.ensures.0, c.cut.ensures.1) (one-lt_first a.f, (c.if-out-frame.false, whole_room w))
 
 pub returns : goal.returns
 unfolding content_in
 returns c =
     let a = c.args in
-    rw (c.take_out.ensures, c.first.ensures, c.later.ensures)
+    rw (c.take_out.ensures, c.cut.ensures.0, c.cut.ensures.1)
     (sym (reading_of_accepted a.f a.s.now a.out.now (sym c.in_ok-frame.ensures) c.if-out-frame.false))

@@ -6,7 +6,7 @@ use native.Mathlib.Omega.{arith}
 use lib.ListN.{length}
 use Rattle.frame.specs.Formats.{form_of, frame_size}
 use Rattle.frame.specs.Frames.{frame_of}
-use Rattle.frame.proofs.FormatLaws.{one-lt_first, zero-lt_later}
+use Rattle.frame.proofs.FormatLaws.{one-lt_first}
 use Rattle.frame.proofs.WriteLaws.{writing_of_short, writing_of_long, writing_of_no_room, writing_of-accepted}
 use Rattle.frame.proofs.write.Goals.{Else-longest-n, Else-n-shortest, Else-out-size}
 use Rattle.frame.proofs.write.Goals as goal
@@ -53,11 +53,7 @@ pub put_all-requires : goal.put_all-requires
 unfolding frame_size
 put_all-requires c =
     let a = c.args in
-    let first = c.first.ensures in
-    let later = c.later.ensures in (
-      rw first (one-lt_first a.f),
-      (rw later (zero-lt_later a.f), rw (first, later) (room (goal.at.put_all-requires c).Else-out-size)),
-    )
+    rw (c.cut.ensures.0, c.cut.ensures.1) (one-lt_first a.f, room (goal.at.put_all-requires c).Else-out-size)
 
 pub returns : goal.returns
 unfolding frame_of frame_size
@@ -65,8 +61,8 @@ returns c =
     let a = c.args in
     rw (
       c.put_all.ensures,
-      c.first.ensures,
-      c.later.ensures,
+      c.cut.ensures.0,
+      c.cut.ensures.1,
       c.length_byte.ensures,
       c.size-size.ensures,
     )

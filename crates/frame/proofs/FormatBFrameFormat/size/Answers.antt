@@ -2,7 +2,7 @@
 use mathlib.Core.Path.{sym}
 use native.Mathlib.Omega.{arith}
 use Rattle.frame.proofs.FormatLaws.{frame_size_B, frame_size_B_long}
-use Rattle.frame.proofs.FormatB.size.Goals as goal
+use Rattle.frame.proofs.FormatBFrameFormat.size.Goals as goal
 
 pub returns-then-n-lt-FIRST : goal.returns-then-n-lt-FIRST
 returns-then-n-lt-FIRST c = sym (frame_size_B c.args.n (omega arith))
