@@ -73,13 +73,13 @@ module _ (k : Kind) (c : List ℕ) where
     putting-accepted p e =
         let size = air_size k (length p) in
         let put : Outcome (Result ℕ Refusal) = leaving (Ok size) (air_of k p ++ drop size d) in
-        ltb-false (length d) size (accepted-cond_false (ltb (length d) size) Refusal.NoRoom d put e).0
+        ltb-false (length d) size (accepted-cond_false (ltb (length d) size) Refusal.NoRoom _ put e).0
 
     sending_of-accepted : {y : ℕ} → (sending_of k c d).answer ≡ Ok y → Sendable
     unfolding sending_of
     sending_of-accepted e =
         let allowed = within (form_of (format_of k)).shortest (form_of (format_of k)).longest (length c) in
-        let tests = accepted-cond_true allowed Refusal.BadContent d (putting k (frame_of (format_of k) c) d) e in
+        let tests = accepted-cond_true allowed Refusal.BadContent _ (putting k (frame_of (format_of k) c) d) e in
         let both = true_within (form_of (format_of k)).shortest (form_of (format_of k)).longest (length c) tests.0 in
         let room = rw (length_frame_of (format_of k) c) at (putting-accepted (frame_of (format_of k) c) tests.1) in
         record { low = both.0; high = both.1; room = room }
