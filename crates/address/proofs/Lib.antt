@@ -3,3 +3,4 @@ pub mod MakerLaws
 pub mod NameLaws
 pub mod WorkedExamples
 pub mod KeyLaws
+pub mod StoreLaws

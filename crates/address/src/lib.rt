@@ -39,7 +39,7 @@ pub struct Name {
 fn is_letter(v: u16) -> bool
     ensures { result ≡ is_letter v }
 {
-    1 <= v && v <= 26
+    (1..=26).contains(&v)
 }
 
 // The letters of M (12.5.5): five bits each, below the top bit.
@@ -82,7 +82,7 @@ pub fn two_at(s: &[u8], k: usize) -> u16
     requires { k + 1 < length s.now }
     ensures { result ≡ two_at s.now k }
 {
-    s[k] as u16 + 256 * (s[k + 1] as u16)
+    u16::from_le_bytes([s[k], s[k + 1]])
 }
 
 // M and A, from place k on.
@@ -101,10 +101,7 @@ pub fn put_four(out: &mut [u8], k: usize, a: u8, b: u8, c: u8, d: u8)
     requires { k + 3 < length out.old }
     ensures { out.new ≡ sets out.old k (a ∷ b ∷ c ∷ d ∷ []) }
 {
-    out[k] = a;
-    out[k + 1] = b;
-    out[k + 2] = c;
-    out[k + 3] = d;
+    out[k..k + 4].copy_from_slice(&[a, b, c, d]);
 }
 
 // Stores M and A from place k on.
@@ -112,10 +109,9 @@ pub fn put_name(out: &mut [u8], k: usize, name: Name)
     requires { k + 7 < length out.old }
     ensures { out.new ≡ sets out.old k (name_bytes name) }
 {
-    let m = name.m;
+    let [low, high] = name.m.to_le_bytes();
     let a = name.a;
-    put_four(out, k, (m % 256) as u8, (m / 256) as u8, a.0, a.1);
-    put_four(out, k + 4, a.2, a.3, a.4, a.5);
+    out[k..k + 8].copy_from_slice(&[low, high, a.0, a.1, a.2, a.3, a.4, a.5]);
 }
 
 // The number in four bytes from place k on, highest first.
@@ -123,7 +119,7 @@ pub fn four_at(s: &[u8], k: usize) -> u32
     requires { k + 3 < length s.now }
     ensures { result ≡ four_at s.now k }
 {
-    ((s[k] as u32 * 256 + s[k + 1] as u32) * 256 + s[k + 2] as u32) * 256 + s[k + 3] as u32
+    u32::from_be_bytes([s[k], s[k + 1], s[k + 2], s[k + 3]])
 }
 
 // The number in eight bytes from place k on, highest first.
@@ -131,7 +127,16 @@ pub fn key_at(s: &[u8], k: usize) -> u64
     requires { k + 7 < length s.now }
     ensures { result ≡ key_at s.now k }
 {
-    four_at(s, k) as u64 * 4294967296 + four_at(s, k + 4) as u64
+    u64::from_be_bytes([
+        s[k],
+        s[k + 1],
+        s[k + 2],
+        s[k + 3],
+        s[k + 4],
+        s[k + 5],
+        s[k + 6],
+        s[k + 7],
+    ])
 }
 
 // Stores a number as four bytes from place k on, highest first.
@@ -139,14 +144,7 @@ pub fn put_number(out: &mut [u8], k: usize, n: u32)
     requires { k + 3 < length out.old }
     ensures { out.new ≡ sets out.old k (four_bytes n) }
 {
-    put_four(
-        out,
-        k,
-        (n / 16777216 % 256) as u8,
-        (n / 65536 % 256) as u8,
-        (n / 256 % 256) as u8,
-        (n % 256) as u8,
-    );
+    out[k..k + 4].copy_from_slice(&n.to_be_bytes());
 }
 
 // Stores a number as eight bytes from place k on, highest first.
@@ -154,6 +152,5 @@ pub fn put_key(out: &mut [u8], k: usize, a: u64)
     requires { k + 7 < length out.old }
     ensures { out.new ≡ sets out.old k (key_bytes a) }
 {
-    put_number(out, k, (a / 4294967296) as u32);
-    put_number(out, k + 4, (a % 4294967296) as u32);
+    out[k..k + 8].copy_from_slice(&a.to_be_bytes());
 }

@@ -4,7 +4,7 @@ ghost use Rattle.header.specs.Layout.{header_length};
 ghost use Rattle.header.specs.HeaderReads.{four_at, session_at, header_in, header_reading_of};
 
 use crate::layout::{Header, HeaderKind, PayloadCheck, Session};
-use address::{Address, Name, name_at, two_at};
+use address::{Address, Name, name_at};
 use answers::Refusal;
 
 // Four bytes from place k on, the least significant first (13.2.1).
@@ -12,7 +12,7 @@ fn four_at(s: &[u8], k: usize) -> u32
     requires { k + 3 < length s.now }
     ensures { result ≡ four_at s.now k }
 {
-    two_at(s, k) as u32 + 65536 * (two_at(s, k + 2) as u32)
+    u32::from_le_bytes([s[k], s[k + 1], s[k + 2], s[k + 3]])
 }
 
 fn session_at(s: &[u8], k: usize) -> Session

@@ -6,26 +6,16 @@ ghost use Rattle.header.specs.Layout.{receiver_place, session_place, header_leng
 ghost use Rattle.header.specs.HeaderWrites.{header_writing_of};
 
 use crate::layout::{Header, HeaderKind, Session};
-use address::{Name, put_four, put_name};
+use address::{Name, put_name};
 use answers::Refusal;
 
 fn put_session_at(out: &mut [u8], k: usize, session: Session)
     requires { k + 5 < length out.old }
     ensures { out.new ≡ sets out.old k (session_bytes session) }
 {
-    let low = session.sn % 65536;
-    let high = session.sn / 65536;
+    let [a, b, c, d] = session.sn.to_le_bytes();
     let check = session.check;
-    put_four(
-        out,
-        k,
-        (low % 256) as u8,
-        (low / 256) as u8,
-        (high % 256) as u8,
-        (high / 256) as u8,
-    );
-    out[k + 4] = check.0;
-    out[k + 5] = check.1;
+    out[k..k + 6].copy_from_slice(&[a, b, c, d, check.0, check.1]);
 }
 
 // M2 and A2, where the kind has them.

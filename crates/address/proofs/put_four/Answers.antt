@@ -1,14 +1,9 @@
--- `address::put_four` meets its contract: each place is the one after the place before it. Assumes nothing.
-use native.Mathlib.Numerals.{add-one, add-two, add-three}
-use native.Mathlib.Omega.{arith}
-use lib.ListN.{length-set}
+use Rattle.std.proofs.Common.{[], ◌∷◌, ◌+◌, ◌-◌, arith}
+use Rattle.address.proofs.StoreLaws.{part_stored}
 use Rattle.address.proofs.put_four.Goals as goal
 
-pub bounds-out-k-2 : goal.bounds-out-k-2
-bounds-out-k-2 c = simp length-set (omega arith)
-
-pub bounds-out-k-3 : goal.bounds-out-k-3
-bounds-out-k-3 c = simp length-set (omega arith)
-
 pub returns : goal.returns
-returns c = simp (add-one, add-two, add-three)
+returns c =
+    let a = c.args in
+    part_stored (a.a ∷ a.b ∷ a.c ∷ a.d ∷ []) a.out.now a.k (a.k + 4 - a.k) (omega arith) (omega arith)
+    c.copy_from_slice.ensures.after

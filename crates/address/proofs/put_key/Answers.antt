@@ -1,12 +1,10 @@
--- `address::put_key` meets its contract: two runs of four bytes, the second behind the first. Assumes nothing.
-use Prim.Native.Nat.{◌/◌, ◌%◌}
-use Rattle.ground.proofs.StoresLaws.{sets_then}
-use Rattle.address.specs.Keys.{four_bytes}
+use Rattle.std.proofs.Common.{◌∙◌, ◌+◌, ◌-◌, arith}
+use Rattle.address.specs.Keys.{key_bytes}
+use Rattle.address.proofs.StoreLaws.{part_stored, high_first}
 use Rattle.address.proofs.put_key.Goals as goal
 
 pub returns : goal.returns
 returns c =
-    let in-hand = c.args in
-    let a = in-hand.a in
-    sets_then (four_bytes (a / 4294967296)) (four_bytes (a % 4294967296)) in-hand.out.now in-hand.k
-    c.put_number.ensures c.put_number-2.ensures
+    let a = c.args in
+    part_stored (key_bytes a.a) a.out.now a.k (a.k + 8 - a.k) (omega arith) (omega arith)
+    (c.copy_from_slice.ensures.after ∙ c.to_be_bytes.ensures ∙ high_first a.a)
