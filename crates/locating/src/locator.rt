@@ -2,7 +2,7 @@
 ghost use Rattle.std.specs.Prelude.{◌++◌, ◌∷◌, [], ◌≡◌, ◌+◌, ◌≤◌, ◌<◌, drop};
 
 // Such a polynomial, 17 coefficients from that of the power 16 on, and its degree.
-#[derive(Clone, Copy)]
+#[derive(Clone, Copy, Debug, PartialEq, Eq)]
 pub struct Locator {
     pub coefficients: [u8; 17],
     pub degree: usize,

@@ -11,14 +11,14 @@ use products::Tables;
 pub(crate) const COLUMNS: usize = 16;
 
 // A polynomial that is kept for a column, and what stands there, which is not 0.
-#[derive(Clone, Copy)]
+#[derive(Clone, Copy, Debug, PartialEq, Eq)]
 pub(crate) struct Kept {
     pub(crate) row: [u8; 17],
     pub(crate) lead: u8,
 }
 
 // The column that was reached, and what stands there, which is not 0.
-#[derive(Clone, Copy)]
+#[derive(Clone, Copy, Debug, PartialEq, Eq)]
 pub(crate) struct Reached {
     pub(crate) column: usize,
     pub(crate) sum: u8,

@@ -4,6 +4,7 @@
 // logarithm is looked up there (proofs/TableLaws).
 ghost use Rattle.products.specs.Tables.{TablesOk};
 
+#[derive(Clone, Copy)]
 pub struct Tables {
     pub powers: [u8; 1024],
     pub logs: [u16; 256],

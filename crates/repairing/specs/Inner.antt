@@ -10,7 +10,7 @@
 --     Settled u w v d p        where a code word is near u, each byte of w is this one's, or its place is p or behind
 --                              it and the polynomial is 0 at its locator
 --     Going u w s v d p        the state of the scan; at most 16 bytes of u differ from w, those to come included
---     Ready w s v d p          what the scan of one place needs of it
+--     Ready w v d p            what the scan of one place needs of it
 --     Moves ..                 one place scanned: the state goes on
 --     Ended u w s              the scan is over: if a code word is near u, it is w
 use Rattle.std.specs.Prelude.{Bool, true, List, ◌⊎◌, ◌↔◌, ◌≡◌, ℕ, suc, ◌+◌, ◌-◌, ◌*◌, ◌≤◌, ◌<◌, length, get_or, set, take}
@@ -71,9 +71,8 @@ pub record Going (u w s v : List ℕ) (d p : ℕ) : Type 0 where
   pub place : p < length u
   pub settled : Settled u w v d p
 
-pub record Ready (w s v : List ℕ) (d p : ℕ) : Type 0 where
+pub record Ready (w v : List ℕ) (d p : ℕ) : Type 0 where
   pub most : length w ≤ 255
-  pub values : length s ≡ 32
   pub room : d < length v
   pub short : length v ≤ 17
   pub some : 0 < d
