@@ -11,7 +11,7 @@ ghost use Rattle.demands.specs.Ladders as rule;
 
 use answers::Refusal;
 use chipreader::Place;
-use frame::{Format, FormatA, FormatB, Frame};
+use frame::{Format, FormatA, FormatB, Frame, FrameFormat};
 use header::Header;
 use line::Code;
 use radio::Reception;
