@@ -70,7 +70,7 @@ pub(crate) fn code_word(w: &[u8]) -> bool
 {
     let end = w.len() - CHECKS;
     let mut checks = [0u8; CHECKS];
-    correction::check_bytes(&w[0..end], &mut checks);
+    let _ = correction::check_bytes(&w[0..end], &mut checks);
     differing(&w[end..], &checks) == 0
 }
 
@@ -82,7 +82,7 @@ pub(crate) fn remainder(w: &[u8], rest: &mut [u8]) -> bool
     ensures { (result ≡ is_code_block w.now) × (rest.new ≡ remainder_of w.now) }
 {
     let end = w.len() - CHECKS;
-    correction::check_bytes(&w[0..end], rest);
+    let _ = correction::check_bytes(&w[0..end], rest);
     let clean = differing(&w[end..], rest) == 0;
     add(&w[end..], rest);
     clean
