@@ -5,7 +5,6 @@
 --     decoded_bad          6, with the place of the first word that is none
 --     decoded_no_room      4
 --     decoded-accepted     0, with the bytes
---     decoded_in_range     where buffer, start and room are right, only 1 and 6 are left to judge
 --     Acceptable           all that acceptance asks
 --     decoded_accepts      accepted exactly in the case of decoded-accepted: the other direction
 --     encoded_no_room, encoded-accepted
@@ -70,15 +69,6 @@ module _ (κ : LineCode) (s : List ℕ) (start n : ℕ) (d : List ℕ) where
       InBuffer s start → chip_count s < start + chips_in κ n → decoded κ s start n d ≡ leaving (Err Short) d
   unfolding decoded
   decoded_short b h = rw (in_range_inside b, lt-ltb (chip_count s) (start + chips_in κ n) h)
-
-  pub decoded_in_range : length s ≤ room_limit → start ≤ chip_count s → n ≤ length d
-      → decoded κ s start n d ≡ cond (ltb (chip_count s) (start + chips_in κ n)) (leaving (Err Short) d)
-      (cond (ltb (good_run (value_at κ s start) (words_in κ n)) (words_in κ n))
-      (leaving (Err (BadWord (good_run (value_at κ s start) (words_in κ n)))) d)
-      (leaving (Ok tt) (decoding κ s start n ++ drop n d)))
-  unfolding decoded
-  decoded_in_range small inside lent =
-      rw (in_range_inside (record { small = small; inside = inside }), le-ltb (length d) n lent)
 
   pub decoded_accepts : (decoded κ s start n d).answer ≡ Ok tt → Acceptable κ s start n d
   unfolding decoded

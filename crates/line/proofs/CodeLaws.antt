@@ -8,7 +8,7 @@
 --     sizes-le            bounds on them
 --     ones-code_words      every three-of-six code word has three ones, by the same test as that they are distinct
 --     word_of_injective    two numbers of a lawful code have different words
---     words_in_le, unit_of_ge, chips_in_ge, chips_in-le    bounds on the words and chips of n bytes
+--     words_in_le, unit_of_ge, chips_in_ge    bounds on the words and chips of n bytes
 --     word_value_is, word_value_accepts    a word stands for x exactly when it is the code word of x
 use mathlib.Core.Path.{◌≡◌, refl, ap, sym, ◌∙◌}
 use mathlib.Core.Bool.{Bool, true, false, cond, ◌&&◌}
@@ -146,15 +146,12 @@ pub word_value_is : (κ : LineCode) (y x : ℕ) → word_value κ y ≡ Some x �
 word_value_is κ y x h = number_for_is κ.word_of y (2 ^ κ.bits) x h
 
 module _ {κ : LineCode} (law : Lawful κ) where
-  -- n bytes have at least 8 and at most 16 chips each
+  -- n bytes have at least 8 chips each
   pub unit_of_ge : 8 ≤ unit_of κ
   unit_of_ge = rw law.whole at (mul-le-mul_left (8 / κ.bits) law.bits-le)
 
   pub chips_in_ge : (n : ℕ) → n * 8 ≤ chips_in κ n
   chips_in_ge n = rw mul_assoc (mul-le-mul_left n unit_of_ge)
-
-  pub chips_in-le : (n : ℕ) → chips_in κ n ≤ n * 16
-  chips_in-le n = rw mul_assoc (mul-le-mul_left n law.unit_le)
 
   pub word_of_injective : (x z : ℕ) → x < 2 ^ κ.bits → z < 2 ^ κ.bits → κ.word_of x ≡ κ.word_of z → x ≡ z
   word_of_injective x z hx hz e =

@@ -13,7 +13,7 @@
 --     decoding-encoding     decoding what was encoded gives back the bytes
 --     encoding-decoding     encoding what was decoded gives back the chips
 --     div-lt_of-lt-mul, words_in_mul_bits    which word a chip or bit belongs to
---     length-encoding, encoding-lt, length-decoding, decoding-lt
+--     length-encoding, length-decoding, decoding-lt
 use mathlib.Core.Path.{◌≡◌, refl, ap, sym, ◌∙◌}
 use mathlib.Core.Bool.{true}
 use mathlib.Core.Logic.{◌↔◌}
@@ -156,10 +156,6 @@ module _ (κ : LineCode) (b : List ℕ) where
   pub length-encoding : length (encoding κ b) ≡ encoded_size κ (length b)
   unfolding encoding
   length-encoding = length_packed (chips_in κ (length b)) (encoded_chip κ b)
-
-  pub encoding-lt : (j : ℕ) → get_or (encoding κ b) j 0 < 256
-  unfolding encoding
-  encoding-lt = packed_lt (chips_in κ (length b)) (encoded_chip κ b) (λ k. omega arith)
 
   pub chip_at-encoding : (k : ℕ) → chip_at (encoding κ b) k ≡ sent_chip κ b k
   unfolding encoding

@@ -110,6 +110,7 @@ pub(crate) fn half_of(y: usize) -> Option<u8>
 }
 
 // What the Manchester word y stands for.
+#[tactic(auto, unfolding(crate::specs::Codes::number_for))]
 fn bit_of(y: usize) -> Option<u8>
     ensures { result ≡ word_value (code_of Manchester) y }
 {

@@ -17,5 +17,6 @@ pub fn word_at(code: Code, s: &[u8], at: usize) -> Result<u8, Refusal>
     if 8 * s.len() - at < w {
         return Err(Refusal::Short);
     }
-    code.word_value(chips::narrow(s, at, w)).ok_or(Refusal::BadWord(0))
+    code.word_value(chips::narrow(s, at, w))
+        .ok_or(Refusal::BadWord(0))
 }

@@ -6,4 +6,3 @@ use Rattle.line.proofs.decoding.words_at.Given as goal
 
 abbrev pub invariant-loop-k : goal.invariant-loop-k
 invariant-loop-k l = Joining (code_of l.code) l.s l.at l.b l.w l.m l.unit l.x l.k
-

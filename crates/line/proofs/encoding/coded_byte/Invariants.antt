@@ -6,4 +6,3 @@ use Rattle.line.proofs.encoding.coded_byte.Given as goal
 
 abbrev pub invariant-loop-k : goal.invariant-loop-k
 invariant-loop-k l = Coding (code_of l.code) l.s l.i l.b l.w l.m l.x l.all l.k
-
