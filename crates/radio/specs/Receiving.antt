@@ -1,7 +1,7 @@
 -- Receiving a frame in chips (document 01, "Answer numbers": 10; 7 or 14; sync tail 1, 8; first byte 1, 6; 2; rest of
 -- the frame 1, 6; 3; 4. A Manchester start skips 7, 14 and the tail).
---     reception k place t z n      a frame of kind k whose sync word stands at `place`, found after t positions: z bytes
---                                 of frame, n of content
+--     reception k place t z n      a frame of kind k whose sync word stands at `place`, found after t positions: z
+--                                 bytes of frame, n of content
 --     after_words κ s at n d next  the words of n bytes from chip `at` on: 10 if that is out of range, 1 if a word is
 --                                 missing, 6 if one is no code word (its place counted from `at`), else what comes next
 --     by_frame k place t m r       as the frame's bytes were read, which left m: 3, 4 or accepted

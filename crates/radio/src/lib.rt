@@ -29,7 +29,8 @@ pub struct Reception {
 // The largest frame: format A with 255 bytes of content.
 const FRAME: usize = 290;
 
-// The line code of a kind.
+// The line code of a kind. This and the next two are functions and no methods: Kind is sync's, and a trait for one type
+// would only say their contracts twice.
 fn code_of(kind: Kind) -> Code
     ensures { result ≡ code_for kind }
 {

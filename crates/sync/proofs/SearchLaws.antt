@@ -115,7 +115,9 @@ module _ (v w : ℕ) (s : List ℕ) (start a : ℕ) where
       sym (passed_first (stands_at v w s) start most (k - start) (omega (arith, f)) stands
       (λ j l. ne_eqb (word_at s (start + j) w) v (f.first (start + j) (omega arith) (omega arith))))
 
-  pub first_found : (k t : ℕ) → length s ≤ room_limit → FirstAt v w s start a k t → search_for v w s start a ≡ Ok (found k t)
+  pub first_found :
+      (k t : ℕ) → length s ≤ room_limit → FirstAt v w s start a k t
+      → search_for v w s start a ≡ Ok (found k t)
   first_found k t h f =
       let here : start + (k - start) ≡ k = omega (arith, f) in
       let tried : k - start + 1 ≡ t = omega (arith, f) in

@@ -1,6 +1,6 @@
 -- The tail behind a sync word (specs/Tails), case by case.
 --     tail_of_outside           the buffer is too long, or the place lies behind it
---     tail_of_short, -there     fewer than 32 chips are left from the sync word on, or at least so many
+--     tail_of_there             at least 32 chips are left from the sync word on
 --     lead_of-le                no kind has more than 32 sync chips
 --     tail_of_begun             what a tail that begins a frame says (BegunBy)
 --     begins_there             where a frame begins, its sync chips are all there
@@ -9,15 +9,15 @@
 use mathlib.Core.Bool.{false}
 use mathlib.Core.Path.{◌≡◌}
 use mathlib.Core.List.{List}
-use Prim.Native.Nat.{ℕ, ◌+◌, ◌/◌, ◌≤◌, ◌<◌}
+use Prim.Native.Nat.{ℕ, ◌+◌, ◌/◌, ◌≤◌}
 use native.Mathlib.Omega.{arith}
-use borrow.Author.Tests.{lt-ltb, le-ltb, ltb-false, eqb-true, eqb-false, eq-eqb, ne_eqb}
+use borrow.Author.Tests.{le-ltb, ltb-false, eqb-true, eqb-false, eq-eqb, ne_eqb}
 use lib.Dec.{ltb, eqb}
 use lib.ListN.{length}
 use Rattle.ground.proofs.CaseLaws.{by_test, zero_not_one}
 use Rattle.std.specs.Prelude.{Result, Ok, Err}
 use Rattle.answers.specs.declared.Refusal.{Refusal}
-use Rattle.answers.specs.declared.Refusal.TheVariants.{Short, UnknownTail, OutOfRange}
+use Rattle.answers.specs.declared.Refusal.TheVariants.{UnknownTail, OutOfRange}
 use Rattle.chips.specs.Chips.{word_at, chip_count, room_limit, in_range}
 use Rattle.chips.proofs.RangeLaws.{InBuffer, in_range_inside, in_range_true}
 use Rattle.sync.specs.Tails.{tail_of, kind_for}
@@ -29,10 +29,6 @@ module _ (s : List ℕ) (k : ℕ) where
   pub tail_of_outside : in_range s k ≡ false → tail_of s k ≡ Err OutOfRange
   unfolding tail_of
   tail_of_outside e = rw e
-
-  pub tail_of_short : InBuffer s k → chip_count s < k + 32 → tail_of s k ≡ Err Short
-  unfolding tail_of
-  tail_of_short b l = rw (in_range_inside b, lt-ltb (chip_count s) (k + 32) l)
 
   pub tail_of_there : length s ≤ room_limit → k + 32 ≤ chip_count s → tail_of s k ≡ kind_for k (word_at s (k + 16) 16)
   unfolding tail_of

@@ -48,6 +48,7 @@ fn unmarked(x: usize, r: usize) -> usize
 }
 
 // How many of the n places from r on are tried before the word stands in the 64 chips x.
+#[tactic(auto, using(crate::proofs::PassedLaws::passed_none))]
 fn first_in(x: usize, r: usize, n: usize) -> usize
     requires { (r ≤ 7) × (r + n ≤ 49) }
     ensures { result ≡ passed (λ j. eqb (x / 2 ^ (48 - j) % 65536) sync_word) r n }

@@ -1,6 +1,5 @@
 use mathlib.Core.Path.{◌≡◌, sym, ap, ◌∙◌}
 use Prim.Native.Nat.{ℕ, ◌+◌, ◌%◌}
-use native.Mathlib.Nat.{not-suc-le-zero}
 use native.Mathlib.Omega.{arith}
 use Rattle.sync.specs.SyncSearch.{passed, sync_word}
 use Rattle.sync.proofs.PassedLaws.{passed_none}
@@ -22,9 +21,6 @@ turn c =
     let window = ap (λ (x : ℕ). passed (stands_in sync_word x) (k % 8) n) c.window.ensures in
     let over = c.first_in-j.ensures ∙ window ∙ passed_window sync_word at.s.now k n (omega arith) in
     record { missed = c.loop-i.invariant.1; fits = omega arith; over = over }
-
-pub loop-i-init : goal.loop-i-init
-loop-i-init c = (omega arith, λ j l. absurd (not-suc-le-zero l))
 
 pub returns-then-j-n : goal.returns-then-j-n
 returns-then-j-n c = turn_hit (turn (goal.at.returns-then-j-n c).After-first_in-j) (omega arith)
