@@ -1,6 +1,5 @@
 -- The maker's letters (EN 13757-4:2019, 12.5.5).
---     letters_of_first, -second, -third, -all    the answer by the first part that is no letter, and where there is
---                                                none
+--     letters_of-all      the answer where all three parts are letters
 --     three_equal         the same three letters are the same letter by letter
 --     letters_of_low      numbers with the same 15 low bits have the same letters: the top bit is no part of one
 --     Spelled m x y z    x, y, z are letters, and the 15 low bits of m are theirs, five bits each
@@ -17,20 +16,10 @@ use Rattle.ground.proofs.CaseLaws.{and_left, and_right, zero_not_one}
 use Rattle.address.specs.Letters.{first_of, second_of, third_of, is_letter, ascii_of, letters_of}
 
 module _ (m : ℕ) where
-  pub letters_of_first : is_letter (first_of m) ≡ false → None ≡ letters_of m
-  letters_of_first p = rw p
-
-  pub letters_of_second : is_letter (first_of m) ≡ true → is_letter (second_of m) ≡ false → None ≡ letters_of m
-  letters_of_second p q = rw (p, q)
-
-  module _ (p : is_letter (first_of m) ≡ true) (q : is_letter (second_of m) ≡ true) where
-    pub letters_of_third : is_letter (third_of m) ≡ false → None ≡ letters_of m
-    letters_of_third r = rw (p, q, r)
-
-    pub letters_of-all :
-        is_letter (third_of m) ≡ true
-        → Some (ascii_of (first_of m), ascii_of (second_of m), ascii_of (third_of m)) ≡ letters_of m
-    letters_of-all r = rw (p, q, r)
+  pub letters_of-all :
+      is_letter (first_of m) ≡ true → is_letter (second_of m) ≡ true → is_letter (third_of m) ≡ true
+      → Some (ascii_of (first_of m), ascii_of (second_of m), ascii_of (third_of m)) ≡ letters_of m
+  letters_of-all p q r = rw (p, q, r)
 
 pub letters_of_low : (m k : ℕ) → m % 32768 ≡ k % 32768 → letters_of m ≡ letters_of k
 letters_of_low m k e =

@@ -9,14 +9,14 @@
 --     bytes_eq-same_bytes    the same bytes are those that Rust's comparison finds equal
 use mathlib.Core.List.{List, [], ◌∷◌, ◌++◌}
 use mathlib.Core.Path.{◌≡◌, refl, ◌∙◌, ap}
-use mathlib.Core.Bool.{true, false, false≢true, ◌&&◌}
+use mathlib.Core.Bool.{true, false≢true, ◌&&◌}
 use Rattle.std.specs.Str.{bytes_eq}
 use Prim.Native.Nat.{ℕ, zero, suc, ◌+◌, ◌*◌, ◌/◌, ◌%◌, ◌<◌, ◌≤◌}
 use native.Mathlib.Numerals.{add-one, add-two, add-three, add-four, add_five, add_six, add_seven}
 use native.Mathlib.Omega.{arith}
-use borrow.Author.Tests.{eqb-true, eq-eqb, ne_eqb}
+use borrow.Author.Tests.{eqb-true, eq-eqb}
 use lib.Dec.{eqb}
-use lib.ListN.{length, get_or, take, drop, length-take, length-drop, drop_of_length-le}
+use lib.ListN.{length, get_or, take, drop, length-take, length-drop}
 use lib.Seq.{drop-cons, get_or-take, get_or-drop, get_or-append_seam, get_or-append-add}
 use Rattle.ground.specs.Bytes.{Bytes}
 use Rattle.ground.proofs.CaseLaws.{and_left, and_right}

@@ -10,11 +10,11 @@ ghost use Rattle.address.specs.Makers.{reach_of, maker_of};
 ghost use Rattle.address.specs.Names.{two_at, name_bytes, name_at};
 ghost use Rattle.address.specs.Keys.{four_at, four_bytes, key_at, key_bytes};
 
-// How far an address is unique: worldwide, or at least within radio range.
+// How far an address is unique: worldwide, or at least within radio range. A call tells it by its number.
 #[derive(Clone, Copy, Debug, PartialEq, Eq)]
 pub enum Reach {
-    Hard,
-    Soft,
+    Hard = 0,
+    Soft = 1,
 }
 
 // What M says: three letters as ASCII bytes, 'A' to 'Z', or none, and hard or soft in both cases.

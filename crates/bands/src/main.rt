@@ -6,7 +6,7 @@ ghost use Rattle.std.specs.Prelude.{◌<◌, length, take, IfOk};
 ghost use Rattle.std.specs.Io.{ReadsAtMost};
 ghost use Rattle.std.specs.Io.KnownBytes.{Consumes, IsAtEnd};
 
-use channels::{Band, Line};
+use channels::Band;
 use std::io;
 use std::io::Read;
 
@@ -18,6 +18,7 @@ fn read_full<R: Read>(input: &mut R, buffer: &mut [u8]) -> io::Result<usize>
     ensures end { IfOk result (λ n. n < length buffer.new → IsAtEnd (R.remaining input.new)) }
 {
     let mut done = 0;
+    // a turn may fill several places: its step is not 1
     while done < buffer.len() {
         let n = input.read(&mut buffer[done..])?;
         if n == 0 {
@@ -28,15 +29,11 @@ fn read_full<R: Read>(input: &mut R, buffer: &mut [u8]) -> io::Result<usize>
     Ok(done)
 }
 
-fn print_line(rt: &impl Print, line: Line) -> io::Result<()> {
-    println!(rt; "{} {} {}", line.index, line.channel, line.hertz)
-}
-
-fn print_band(rt: &impl Print, band: Option<Band>) -> io::Result<()> {
+fn print_band(rt: &impl Print, band: Band) -> io::Result<()> {
     println!(rt; "index channel hz")?;
-    for k in 0..channels::lines_of(band) {
-        if let Some(line) = channels::line_at(band, k) {
-            print_line(rt, line)?;
+    for k in 0..channels::lines_of(Some(band)) {
+        if let Some(line) = channels::line_at(Some(band), k) {
+            println!(rt; "{} {} {}", line.index, line.channel, line.hertz)?;
         }
     }
     Ok(())
@@ -46,10 +43,8 @@ fn main(rt: HostRuntime) -> io::Result<()> {
     // a third byte tells a longer input from a letter and a line feed
     let mut buffer = [0u8; 3];
     let n = read_full(&mut rt.stdin(), &mut buffer)?;
-    let band = channels::band_of(&buffer[..n]);
-    if band.is_none() {
-        println!(rt; "no such band")
-    } else {
-        print_band(&rt, band)
+    match channels::band_of(&buffer[..n]) {
+        Some(band) => print_band(&rt, band),
+        None => println!(rt; "no such band"),
     }
 }

@@ -1,6 +1,5 @@
 -- What the list of a band holds, one line at a time (document 01, "Mode N channels").
 --     band_of_one, band_of_two, band_of_other    the band of an input, by the input's length
---     rows_of_le                               a band's indices lie below 14
 --     slice_get_lines_from-lt                    a channel of the first index is its own line
 --     slice_get_lines_from-le                    behind them the list goes on with the next index
 --     slice_get_lines_from-nil                   no indices, no lines
@@ -15,13 +14,10 @@ use native.Mathlib.Numerals.{add-one}
 use native.Mathlib.Omega.{arith}
 use lib.Dec.{eqb}
 use lib.ListN.{length, get_or, length-append}
-use Rattle.std.specs.Prelude.{Option, Some, None}
+use Rattle.std.specs.Prelude.{Some, None}
 use Rattle.std.specs.List.{slice_get}
-use Rattle.channels.specs.declared.listing.Band.{Band}
-use Rattle.channels.specs.declared.listing.Band.TheVariants.{A, B, C, D}
-use Rattle.channels.specs.declared.listing.Line.{Line}
 use Rattle.channels.specs.Table21.{channels_of, quarters_of}
-use Rattle.channels.specs.Listing.{letter_of, band_of, rows_of, channel_line, channels_up_to, lines_from}
+use Rattle.channels.specs.Listing.{letter_of, band_of, channel_line, channels_up_to, lines_from}
 
 pub band_of_one : (s : List ℕ) → length s ≡ 1 → band_of s ≡ letter_of (get_or s 0 0)
 unfolding band_of
@@ -43,13 +39,6 @@ band_of_other [] one two = refl
 band_of_other (x ∷ []) one two = absurd (one refl)
 band_of_other (x ∷ (y ∷ [])) one two = absurd (two refl)
 band_of_other (x ∷ (y ∷ (z ∷ s))) one two = refl
-
-pub rows_of_le : (b : Option Band) → (rows_of b).first + (rows_of b).count ≤ 14
-rows_of_le (Some A) = omega arith
-rows_of_le (Some B) = omega arith
-rows_of_le (Some C) = omega arith
-rows_of_le (Some D) = omega arith
-rows_of_le None = omega arith
 
 length-channels_up_to : (i n : ℕ) → length (channels_up_to i n) ≡ n
 unfolding channels_up_to

@@ -1,17 +1,16 @@
 -- What writing a header leaves behind.
 --     sets-header_bytes           the writer's stores leave the header at the start of the lent bytes
---     header_writing_of-lt, header_writing_of-le    the outcome by the test that decides it
+--     header_writing_of-le        the outcome where the header fits
 use mathlib.Core.List.{List, [], ◌∷◌, ◌++◌}
 use mathlib.Core.Path.{◌≡◌, refl, ◌∙◌, ap, sym}
-use Prim.Native.Nat.{ℕ, ◌+◌, ◌≤◌, ◌<◌}
+use Prim.Native.Nat.{ℕ, ◌+◌, ◌≤◌}
 use native.Mathlib.Nat.{zero-add}
 use native.Mathlib.Omega.{arith}
-use borrow.Author.Tests.{lt-ltb, le-ltb}
+use borrow.Author.Tests.{le-ltb}
 use lib.ListN.{length, drop}
 use lib.Seq.{sets}
-use Rattle.std.specs.Prelude.{Ok, Err}
+use Rattle.std.specs.Prelude.{Ok}
 use Rattle.answers.specs.Outcome.{leaving}
-use Rattle.answers.specs.declared.Refusal.TheVariants.{NoRoom}
 use Rattle.ground.proofs.StoresLaws.{sets_then, sets_start}
 use Rattle.header.specs.Layout.{ci_of, receiver_place, session_place, header_length, receiver_part, session_part, header_bytes}
 use Rattle.header.specs.HeaderWrites.{header_writing_of}
@@ -40,11 +39,6 @@ module _ (h : Header) (d : List ℕ) where
       let room : length (header_bytes h) ≤ length d = omega (arith, length-header_bytes h) in
       sets_runs p q ∙ sets_start (header_bytes h) d room
       ∙ ap (λ (k : ℕ). header_bytes h ++ drop k d) (length-header_bytes h)
-
-  pub header_writing_of-lt :
-      length d < header_length h.kind
-      → leaving (Err NoRoom) d ≡ header_writing_of h d
-  header_writing_of-lt short = rw (lt-ltb (length d) (header_length h.kind) short)
 
   pub header_writing_of-le :
       {a : ℕ} {m : List ℕ} → header_length h.kind ≤ length d → a ≡ header_length h.kind

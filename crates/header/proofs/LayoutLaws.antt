@@ -1,6 +1,6 @@
 -- Lengths of extended headers and of their parts.
---     session_place-addressed, session_place_bare, session_place_bound    where SN starts
---     header_length-secured, header_length_bare, session_place-le         what comes behind that place
+--     session_place-addressed                     where SN starts behind A2
+--     header_length-secured, session_place-le     what comes behind that place
 --     opening h            what is sent before SN
 --     length-opening, length-header_bytes    bytes of a header, and of what is sent before SN
 use mathlib.Core.List.{List, [], ◌∷◌, ◌++◌}
@@ -18,21 +18,8 @@ module _ (k : HeaderKind) where
   pub session_place-addressed : addressed k ≡ true → session_place k ≡ 11
   session_place-addressed e = rw e
 
-  pub session_place_bare : addressed k ≡ false → session_place k ≡ 3
-  session_place_bare e = rw e
-
   pub header_length-secured : secured k ≡ true → header_length k ≡ session_place k + 6
   header_length-secured e = rw e
-
-  pub header_length_bare : secured k ≡ false → header_length k ≡ session_place k
-  header_length_bare e = rw e (omega arith)
-
-  pub session_place_bound : session_place k ≤ 11
-  session_place_bound = by_receiver (addressed k)
-    where
-      by_receiver : (b : Bool) → 3 + cond b 8 0 ≤ 11
-      by_receiver true = omega arith
-      by_receiver false = omega arith
 
   -- what comes before the session's fields is part of the header
   pub session_place-le : session_place k ≤ header_length k

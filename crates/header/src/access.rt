@@ -2,13 +2,13 @@
 ghost use Rattle.std.specs.Prelude.{◌≡◌};
 ghost use Rattle.header.specs.AccessBits.{access_of};
 
-// Table 37, row by row.
+// Table 37, row by row, each with the number that document 01 gives it.
 #[derive(Clone, Copy, Debug, PartialEq, Eq)]
 pub enum Access {
-    NoAccess,
-    NoneForNow,
-    Limited,
-    Unlimited,
+    NoAccess = 0,
+    NoneForNow = 1,
+    Limited = 2,
+    Unlimited = 3,
 }
 
 // The access that the byte CC announces.
@@ -17,17 +17,10 @@ pub fn announced(cc: u8) -> Access
 {
     let b = cc / 128 % 2;
     let a = cc / 4 % 2;
-    if b == 0 {
-        if a == 0 {
-            Access::NoAccess
-        } else {
-            Access::NoneForNow
-        }
-    } else {
-        if a == 0 {
-            Access::Limited
-        } else {
-            Access::Unlimited
-        }
+    match (b, a) {
+        (0, 0) => Access::NoAccess,
+        (0, _) => Access::NoneForNow,
+        (_, 0) => Access::Limited,
+        _ => Access::Unlimited,
     }
 }

@@ -1,5 +1,5 @@
 -- The definition's cases are by the length of the input, and so are the arms.
-use Rattle.std.proofs.Common.{◌≡◌, ℕ, get_or, sym, ◌∙◌, arith}
+use Rattle.std.proofs.Common.{get_or, sym, ◌∙◌, arith}
 use borrow.Author.Tests.{eq-eqb, ne_eqb}
 use Rattle.channels.proofs.ListingLaws.{band_of_one, band_of_two, band_of_other}
 use Rattle.channels.proofs.listing.band_of.Goals as goal

@@ -1,7 +1,5 @@
-use Rattle.std.proofs.Common.{◌≡◌, ◌+◌, ◌-◌, sym, ◌∙◌, arith, rules, slice_get}
-use Rattle.channels.specs.Listing.{lines_from, rows_of}
-use Rattle.channels.specs.declared.listing.Rows.{Rows}
-use Rattle.channels.proofs.ListingLaws.{rows_of_le, slice_get_lines_from-lt, slice_get_lines_from-le, slice_get_lines_from-nil}
+use Rattle.std.proofs.Common.{◌≡◌, ◌+◌, ◌-◌, sym, ◌∙◌, arith, rules}
+use Rattle.channels.proofs.ListingLaws.{slice_get_lines_from-lt, slice_get_lines_from-le, slice_get_lines_from-nil}
 use Rattle.channels.proofs.listing.line_at.Goals as goal
 
 pub returns-then-channel-channels : goal.returns-then-channel-channels

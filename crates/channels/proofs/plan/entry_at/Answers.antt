@@ -1,9 +1,6 @@
 -- The source's table, as floats and numbers, lists `entry_as_floats`, which antt computes.
-use mathlib.Core.Path.{ap}
-use mathlib.Core.List.{List, [], ◌∷◌}
-use Prim.Native.Nat.{ℕ}
 use lib.Count.{count_trailing_zeros}
-use lib.Ieee.{Float, nan, round, size, span, climb, units, odd, of_bits, of_fields}
+use lib.Ieee.{round, size, span, climb, units, odd, of_bits, of_fields}
 use Rattle.ground.proofs.TableLaws.{get_or_values}
 use Rattle.channels.specs.Table21.{table, entry_of}
 use Rattle.channels.specs.Plan.{float, row_of, entry_as_floats}
