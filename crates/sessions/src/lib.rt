@@ -5,7 +5,7 @@ use frame::Format;
 use modes::Mode;
 
 // What is held of a meter. Mode and format are no numbers: a value outside its list cannot stand here.
-#[derive(Clone, Copy)]
+#[derive(Clone, Copy, Debug, PartialEq, Eq)]
 pub struct Meter {
     // M and A as received, the eight bytes as one number, first byte highest.
     pub address: u64,

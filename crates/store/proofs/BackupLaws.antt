@@ -1,11 +1,10 @@
--- Memory and files that hold a store: the meters in their bytes.
---     kept_from                the meters of a memory
---     Backup, backup_file      the meters of a file, and its allowance
+-- Files that hold a store: the meters in their bytes.
+--     Backup, opened_backup    the meters of a file, and its allowance
 -- Assumes nothing.
 use Rattle.std.specs.Prelude.{Result, Ok, Err}
 use mathlib.Core.List.{List, [], ◌++◌, append-nil}
 use mathlib.Core.Logic.{◌⊎◌, inl, inr}
-use mathlib.Core.Path.{◌≡◌, refl, ap, sym}
+use mathlib.Core.Path.{◌≡◌, refl, sym}
 use Prim.Native.Nat.{ℕ, ◌+◌, ◌*◌, ◌≤◌}
 use native.Mathlib.Omega.{arith}
 use lib.ListN.{length, drop}
@@ -16,13 +15,14 @@ use Rattle.address.proofs.KeyLaws.{four_at-append}
 use Rattle.sessions.specs.Meters.{Store}
 use Rattle.sessions.specs.StoreFile.{meters_bytes, meters_in, version_one, bytes_of, file_of}
 use Rattle.sessions.specs.Valid.{Valid, IsFile}
-use Rattle.sessions.proofs.ExactLaws.{memory_of_exactly, file_of_exactly}
+use Rattle.sessions.proofs.ExactLaws.{file_of_exactly}
 use Rattle.sessions.proofs.LeavesLaws.{length_bytes_of, file_of-written}
 use Rattle.sessions.proofs.MeterBytesLaws.{length-meters_bytes}
 use Rattle.sessions.proofs.MetersInLaws.{meters_in_bytes, all_right_bytes}
 use Rattle.sessions.proofs.OnceLaws.{unlike_once}
+use Rattle.store.specs.declared.index.Index.{Index}
 use Rattle.store.specs.Inner.{held_by, MetersFrom, first_of, allowance_of}
-use Rattle.store.proofs.KeptLaws.{Kept}
+use Rattle.store.specs.Opened.{Opened}
 
 -- the meters of a store that can stand in bytes, where they stand
 module _
@@ -102,10 +102,5 @@ module _ (file : List ℕ) (n : ℕ) (bytes : Bytes file) where
   pub backup_file : held_by (file_of file) ≡ Ok n → Backup file n
   backup_file h = backup_kept (file_of file) refl h
 
-pub kept_from : {s : List ℕ} {count : ℕ} → Bytes s → Kept s count → MetersFrom 8 count s
-kept_from {s} bytes k =
-    let st = k.store in
-    let w = (memory_of_exactly s st bytes).0 k.read in
-    rw (← k.size)
-    (from_there w.valid s 8 (drop (8 + 20 * length st.meters) s) (ap (drop 8) (sym k.same))
-    (omega (arith, w.room, w.valid.few)))
+pub opened_backup : {file : List ℕ} {m : Index} → Opened (file_of file) file (first_of file) m → Backup file m.count
+opened_backup {file} {m} o = backup_file file m.count (rw o.over at m.octets) o.held

@@ -1,36 +1,30 @@
--- A file judged by its version, once it is known.
---     by_version      what is left to judge: the bytes between the version and the count, and what follows
---     file_of_two, file_of_one    a file of version 2, and of version 1
---     short          too few bytes for the count: no file
+-- What is made of a body that was judged.
+--     opened_body    bytes that hold a store, if their body is right, else 17
 -- Assumes nothing.
-use mathlib.Core.Bool.{Bool, true, false, ◌&&◌}
+use Rattle.std.specs.Prelude.{Option, Some, None, Result, Err, MatchResult}
+use Rattle.std.specs.Option.{ok_or}
+use mathlib.Core.Bool.{Bool}
 use mathlib.Core.List.{List}
-use mathlib.Core.Path.{◌≡◌, refl}
-use Prim.Native.Nat.{ℕ, ◌+◌, ◌<◌}
-use native.Mathlib.Omega.{arith}
-use borrow.Author.Tests.{eq-eqb, ne_eqb}
-use lib.Dec.{eqb}
-use lib.ListN.{length, get_or}
-use Rattle.address.specs.Keys.{four_at}
-use Rattle.sessions.specs.StoreFile.{right_body, whole, store_in, if_right, file_of}
-use Rattle.sessions.proofs.BodyLaws.{room_body}
-use Rattle.store.proofs.IndexLaws.{not_true}
+use mathlib.Core.Path.{◌≡◌, ◌∙◌}
+use Prim.Native.Nat.{ℕ, ◌+◌}
+use lib.ListN.{get_or, drop}
+use Rattle.answers.specs.declared.Refusal.{Refusal}
+use Rattle.answers.specs.declared.Refusal.TheVariants.{BadStore}
+use Rattle.sessions.specs.Meters.{Store}
+use Rattle.sessions.specs.StoreFile.{store_in, if_right}
+use Rattle.sessions.proofs.MetersInLaws.{length-meters_in}
+use Rattle.store.specs.declared.index.Index.{Index}
+use Rattle.store.specs.Opened.{BodyAt, Opened}
 
-pub and_none : (t : Bool) {u : Bool} → u ≡ false → (t && u) ≡ false
-and_none true wrong = wrong
-and_none false wrong = refl
-
-module _ (s : List ℕ) (some : 0 < length s) where
-  filled : eqb (length s) 0 ≡ false
-  filled = ne_eqb (length s) 0 (λ e. omega arith)
-
-  pub file_of_two :
-      get_or s 0 0 ≡ 2 →
-      file_of s ≡ if_right (eqb (get_or s 1 0) 4 && (right_body 6 s && whole 6 s)) (store_in 6 (four_at s 2) s)
-  file_of_two is = rw (filled, eq-eqb (get_or s 0 0) 2 is)
-
-  pub file_of_one : get_or s 0 0 ≡ 1 → file_of s ≡ if_right (right_body 1 s && whole 1 s) (store_in 1 16384 s)
-  file_of_one is = rw (filled, is)
-
-  pub short : (k : ℕ) → length s < k + 2 → (right_body k s && whole k s) ≡ false
-  short k few = rw (not_true (right_body k s) (λ right. omega (arith, few, room_body k s right)))
+pub opened_body :
+    (s : List ℕ) (k allowance : ℕ) (right : Bool) (o : Option Index) {r : Result Store Refusal} →
+    BodyAt s k right o →
+    r ≡ if_right right (store_in k allowance s) →
+    MatchResult (ok_or o BadStore) (Opened r s (k + 2)) (λ why. r ≡ Err why)
+opened_body s k allowance right None wrong is = is ∙ rw wrong
+opened_body s k allowance right (Some m) body is =
+    record {
+      held = rw (is, body.0, length-meters_in (get_or s (k + 1) 0) (drop (k + 2) s), body.1.1.1);
+      over = body.1.0;
+      begins = body.1.1.0;
+    }

@@ -2,7 +2,7 @@
 --     not_true                      what is not true is false
 --     last_with-le, last_with_slot    the last meter in a slot is one of them, and is in that slot
 --     last_with_above                none behind it is
---     Walk, walk_ends, walk_low, walk_less, walk_next    a search in a slot, from one meter to the one before it
+--     Walk, walk_starts, walk_ends, walk_less, walk_next    a search in a slot, from one meter to the one before it
 --     indexed_none                  a table of zeros is that of no meters
 --     indexed_next                  one meter more, entered
 -- Assumes nothing.
@@ -10,12 +10,12 @@ use mathlib.Core.Bool.{Bool, true, false, cond}
 use mathlib.Core.List.{List}
 use mathlib.Core.Logic.{◌⊎◌, inl, inr}
 use mathlib.Core.Path.{◌≡◌, refl, ◌∙◌, ap, sym}
-use Prim.Native.Nat.{ℕ, zero, suc, ◌+◌, ◌-◌, ◌≤◌, ◌<◌}
+use Prim.Native.Nat.{ℕ, zero, suc, ◌-◌, ◌≤◌, ◌<◌}
 use native.Mathlib.Nat.{eq-or-lt_of_le, lt_of_not-le}
 use native.Mathlib.Omega.{arith}
 use borrow.Author.Tests.{eqb-true, eqb-false}
 use lib.Dec.{eqb}
-use lib.ListN.{length, get_or, set, replicate, get_or-replicate, length-set}
+use lib.ListN.{length, get_or, set, replicate, get_or-replicate}
 use lib.Seq.{get_or-set_same, get_or-set_other}
 use Rattle.store.specs.Inner.{address_at, slot_of, last_with, Indexed}
 
@@ -66,9 +66,23 @@ module _ (s : List ℕ) (first h : ℕ) where
 -- A search has come to `next`: a meter of the first k may be found from there, and from the k-th on there is none.
 pub record Walk (s : List ℕ) (first count a next : ℕ) : Type 0 where
   pub left : ℕ
+  pub low : next ≤ count
   pub few : left ≤ count
   pub is : next ≡ last_with s first (slot_of a) left
   pub none : (j : ℕ) → left ≤ j → j < count → address_at s first j ≡ a → ⊥
+
+pub walk_starts :
+    {slots links s : List ℕ} {first count : ℕ} (a : ℕ) → Indexed slots links s first count →
+    Walk s first count a (get_or slots (slot_of a) 0)
+walk_starts {slots} {links} {s} {first} {count} a indexed =
+    let is = indexed.of_slot (slot_of a) (omega arith) in
+    record {
+      left = count;
+      low = omega (arith, is, last_with-le s first (slot_of a) count);
+      few = omega arith;
+      is = is;
+      none = λ j far near. absurd (omega arith);
+    }
 
 pub walk_ends :
     (s : List ℕ) (first count a : ℕ) {next : ℕ} →
@@ -84,8 +98,8 @@ module _ (s : List ℕ) (first count a next : ℕ) (w : Walk s first count a nex
   last : last_with s first (slot_of a) w.left ≡ suc (next - 1)
   last = omega (arith, w.is, goes)
 
-  pub walk_low : next - 1 < count
-  walk_low = omega (arith, last, w.few, last_with-le s first (slot_of a) w.left)
+  walk_low : next - 1 < count
+  walk_low = omega (arith, w.low, goes)
 
   module _ (other : address_at s first (next - 1) ≡ a → ⊥) where
     passed : (i : ℕ) → next - 1 ≤ i → i < count → address_at s first i ≡ a → ⊥
@@ -96,57 +110,60 @@ module _ (s : List ℕ) (first count a next : ℕ) (w : Walk s first count a nex
         last_with_above s first (slot_of a) w.left i (omega (arith, last)) l (ap slot_of here)) in
         w.none i (omega arith) near here
 
-    module _ (table : List ℕ) (indexed : Indexed table s first count) where
-      led : get_or table (509 + (next - 1)) 0 ≡ last_with s first (slot_of a) (next - 1)
+    module _ {slots links : List ℕ} (indexed : Indexed slots links s first count) where
+      led : get_or links (next - 1) 0 ≡ last_with s first (slot_of a) (next - 1)
       led =
-          indexed.links (next - 1) walk_low
+          indexed.of_meter (next - 1) walk_low
           ∙ ap (λ (h : ℕ). last_with s first h (next - 1)) (last_with_slot s first (slot_of a) w.left (next - 1) last)
 
-      pub walk_less : get_or table (509 + (next - 1)) 0 < next
+      pub walk_less : get_or links (next - 1) 0 < next
       walk_less = omega (arith, led, last_with-le s first (slot_of a) (next - 1), goes)
 
-      pub walk_next : Walk s first count a (get_or table (509 + (next - 1)) 0)
-      walk_next = record { left = next - 1; few = omega (arith, walk_low); is = led; none = passed }
+      pub walk_next : Walk s first count a (get_or links (next - 1) 0)
+      walk_next =
+          record {
+            left = next - 1;
+            low = omega (arith, walk_less, w.low);
+            few = omega (arith, walk_low);
+            is = led;
+            none = passed;
+          }
 
-pub indexed_none : (s : List ℕ) (first : ℕ) → Indexed (replicate 573 0) s first 0
+pub indexed_none : (s : List ℕ) (first : ℕ) → Indexed (replicate 509 0) (replicate 64 0) s first 0
 unfolding last_with
 indexed_none s first =
-    record { slots = λ h low. get_or-replicate 573 h 0 0 (omega arith); links = λ j low. absurd (omega arith) }
+    record { of_slot = λ h low. get_or-replicate 509 h 0 0 low; of_meter = λ j low. absurd (omega arith) }
 
 module _
-    (table s : List ℕ) (first k : ℕ) (size : 573 ≤ length table) (few : k < 64) (is : Indexed table s first k) where
-  abbrev own : ℕ
-  own = slot_of (address_at s first k)
+    (slots links s : List ℕ)
+    (first k : ℕ)
+    (slots_size : length slots ≡ 509)
+    (links_size : length links ≡ 64)
+    (few : k < 64)
+    (is : Indexed slots links s first k)
+  where
+    abbrev own : ℕ
+    own = slot_of (address_at s first k)
 
-  abbrev entered : List ℕ
-  entered = set (set table (509 + k) (get_or table own 0)) own (suc k)
+    slots_next : (t : Bool) (h : ℕ) → eqb own h ≡ t → h < 509
+        → get_or (set slots own (suc k)) h 0 ≡ cond t (suc k) (last_with s first h k)
+    slots_next true h e low = rw (← eqb-true own h e) (get_or-set_same slots own (suc k) 0 (omega arith))
+    slots_next false h e low =
+        get_or-set_other slots own h (suc k) 0 (λ x. eqb-false own h e (sym x)) ∙ is.of_slot h low
 
-  slots_next : (t : Bool) (h : ℕ) → eqb own h ≡ t → h < 509
-      → get_or entered h 0 ≡ cond t (suc k) (last_with s first h k)
-  slots_next true h e low =
-      rw (← eqb-true own h e)
-      (get_or-set_same (set table (509 + k) (get_or table own 0)) own (suc k) 0
-      (rw (length-set table (509 + k) (get_or table own 0)) (omega arith)))
-  slots_next false h e low =
-      get_or-set_other (set table (509 + k) (get_or table own 0)) own h (suc k) 0 (λ x. eqb-false own h e (sym x))
-      ∙ (get_or-set_other table (509 + k) h (get_or table own 0) 0 (λ x. omega arith) ∙ is.slots h low)
+    linked :
+        (j : ℕ) →
+        (j ≡ k) ⊎ (j < k) →
+        get_or (set links k (get_or slots own 0)) j 0 ≡ last_with s first (slot_of (address_at s first j)) j
+    linked j (inl same) =
+        rw same (get_or-set_same links k (get_or slots own 0) 0 (omega arith) ∙ is.of_slot own (omega arith))
+    linked j (inr low) =
+        get_or-set_other links k j (get_or slots own 0) 0 (λ x. omega arith) ∙ is.of_meter j low
 
-  linked :
-      (j : ℕ) →
-      (j ≡ k) ⊎ (j < k) →
-      get_or (set table (509 + k) (get_or table own 0)) (509 + j) 0
-      ≡ last_with s first (slot_of (address_at s first j)) j
-  linked j (inl same) =
-      rw same (get_or-set_same table (509 + k) (get_or table own 0) 0 (omega arith) ∙ is.slots own (omega arith))
-  linked j (inr low) =
-      get_or-set_other table (509 + k) (509 + j) (get_or table own 0) 0 (λ x. omega arith) ∙ is.links j low
-
-  pub indexed_next : Indexed entered s first (suc k)
-  unfolding last_with
-  indexed_next =
-      record {
-        slots = λ h low. slots_next (eqb own h) h refl low;
-        links = λ j low.
-            get_or-set_other (set table (509 + k) (get_or table own 0)) own (509 + j) (suc k) 0 (λ x. omega arith)
-            ∙ linked j (eq-or-lt_of_le (omega arith));
-      }
+    pub indexed_next : Indexed (set slots own (suc k)) (set links k (get_or slots own 0)) s first (suc k)
+    unfolding last_with
+    indexed_next =
+        record {
+          of_slot = λ h low. slots_next (eqb own h) h refl low;
+          of_meter = λ j low. linked j (eq-or-lt_of_le (omega arith));
+        }

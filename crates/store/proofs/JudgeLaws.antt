@@ -3,23 +3,24 @@
 --     wrong_meter    one that is no meter decides
 --     twice          one that stands before decides
 --     right_next, unlike_next    one more that is a meter, and stands not before
---     Judged, judged_none, judged_next    so far nothing was wrong, and the table leads to them
+--     meters_none, meters_next       so far nothing was wrong
+--     wrong_there, twice_there       one that is no meter, or stands before, decides for more of them
 -- Assumes nothing.
 use mathlib.Core.Bool.{Bool, true, false, ◌&&◌, true≢false}
 use mathlib.Core.List.{List, []}
 use mathlib.Core.Path.{◌≡◌, refl, ◌∙◌, ap, sym}
 use Prim.Native.Nat.{ℕ, suc, ◌+◌, ◌*◌, ◌<◌, ◌≤◌}
 use native.Mathlib.Omega.{arith}
-use lib.ListN.{length, get_or, drop, set, length-set}
+use lib.ListN.{length, get_or, drop}
 use lib.Seq.{drop-drop, get_or-take}
 use Rattle.sessions.specs.Meters.{stranger, holds}
 use Rattle.sessions.specs.StoreFile.{meter_in, meters_in, right_meter, all_right, unlike}
 use Rattle.sessions.proofs.MetersInLaws.{right_meter_at, all_right-suc, meters_in-suc, take-meters_in, length-meters_in, get_or-meters_in}
 use Rattle.sessions.proofs.OnceLaws.{unlike_once, unlike_snoc}
-use Rattle.store.specs.Inner.{place_of, address_at, slot_of, Indexed}
+use Rattle.store.specs.Inner.{place_of, address_at, MetersFrom}
 use Rattle.store.proofs.MeterAtLaws.{key_at_drop}
 use Rattle.store.proofs.PlaceLaws.{place_of_held, place_of_none, place_of_there}
-use Rattle.store.proofs.IndexLaws.{not_true, indexed_next}
+use Rattle.store.proofs.IndexLaws.{not_true}
 
 pub and_wrong : (t u : Bool) → u ≡ false → false ≡ (t && u)
 and_wrong true u wrong = sym wrong
@@ -69,34 +70,39 @@ module _ (s : List ℕ) (first i : ℕ) where
       let same = (unlike_once (meters_in n t)).0 once p i inside (omega (arith, low, long)) (earlier ∙ sym later) in
       omega (arith, before, same))
 
--- the first i meters are judged, and the table leads to them
-pub record Judged (s : List ℕ) (first : ℕ) (table : List ℕ) (i : ℕ) : Type 0 where
-  pub size : 573 ≤ length table
-  pub right : all_right i (drop first s) ≡ true
-  pub once : unlike [] (meters_in i (drop first s)) ≡ true
-  pub indexed : Indexed table s first i
-
-pub judged_none :
-    (s : List ℕ) (first : ℕ) {table : List ℕ} → 573 ≤ length table → Indexed table s first 0 → Judged s first table 0
+pub meters_none : (s : List ℕ) (first : ℕ) → first ≤ length s → MetersFrom first 0 s
 unfolding all_right meters_in unlike
-judged_none s first size indexed = record { size = size; right = refl; once = refl; indexed = indexed }
+meters_none s first room = record { few = omega arith; room = omega arith; right = refl; once = refl }
 
-pub judged_next :
-    (s : List ℕ) (first : ℕ) (table : List ℕ) (i : ℕ) →
-    Judged s first table i →
+pub meters_next :
+    {s : List ℕ} {first i : ℕ} →
+    MetersFrom first i s →
     i < 64 →
+    first + 20 * (i + 1) ≤ length s →
     right_meter (drop (first + 20 * i) s) ≡ true →
     i ≤ place_of (address_at s first i) (meters_in i (drop first s)) →
-    let own = slot_of (address_at s first i) in
-    Judged s first (set (set table (509 + i) (get_or table own 0)) own (suc i)) (suc i)
-judged_next s first table i j low here new =
+    MetersFrom first (suc i) s
+meters_next {s} {first} {i} m low room here new =
     let ms = meters_in i (drop first s) in
-    let own = slot_of (address_at s first i) in
     let none = place_of_none (address_at s first i) ms (rw (length-meters_in i (drop first s)) new) in
-    let linked = set table (509 + i) (get_or table own 0) in
     record {
-      size = rw (length-set linked own (suc i), length-set table (509 + i) (get_or table own 0)) j.size;
-      right = right_next s first i j.right here;
-      once = unlike_next s first i j.once (rw (key_at_drop s (first + 20 * i) 1) none);
-      indexed = indexed_next table s first i j.size low j.indexed;
+      few = omega arith;
+      room = omega arith;
+      right = right_next s first i m.right here;
+      once = unlike_next s first i m.once (rw (key_at_drop s (first + 20 * i) 1) none);
     }
+
+-- where the meter at i is none, or stands before, there are no n meters with it
+module _ (s : List ℕ) (first i : ℕ) where
+  pub wrong_there :
+      right_meter (drop (first + 20 * i) s) ≡ false → (n : ℕ) → i < n
+      → all_right n (drop first s) && unlike [] (meters_in n (drop first s)) ≡ false
+  wrong_there wrong n low = rw (wrong_meter s first i n low wrong)
+
+  pub twice_there :
+      place_of (address_at s first i) (meters_in i (drop first s)) < i → (n : ℕ) → i < n
+      → all_right n (drop first s) && unlike [] (meters_in n (drop first s)) ≡ false
+  twice_there before n low =
+      let t = drop first s in
+      sym (and_wrong (all_right n t) (unlike [] (meters_in n t))
+      (twice s first i n low (rw (key_at_drop s (first + 20 * i) 1) before)))

@@ -1,7 +1,6 @@
 -- A memory that holds a store, as its bytes say it, and a meter in it.
 --     Kept s count, kept_memory     the memory s holds a store of so many meters
---     refuse_of                     what holds none is a refusal
---     refused_is, refused_memory    a memory that holds none, and a call on it
+--     opened_kept                   a memory that was judged holds one
 --     at_place, place-le       its place
 --     held, none               whether a meter is held, by its place
 --     meter_there, meter_known    what is held of it
@@ -19,19 +18,20 @@ use lib.ListN.{length, get_or, drop, set}
 use lib.Seq.{sets, drop-drop}
 use Rattle.ground.specs.Bytes.{Bytes}
 use Rattle.ground.proofs.CaseLaws.{by_test, zero_not_one}
-use Rattle.answers.specs.Outcome.{leaving}
 use Rattle.answers.specs.declared.Refusal.{Refusal}
 use Rattle.address.specs.Keys.{four_at}
 use Rattle.sessions.specs.declared.Meter.{Meter}
 use Rattle.sessions.specs.Meters.{Store, stranger, meter_of, holds}
 use Rattle.sessions.specs.Changes.{with_meter}
 use Rattle.sessions.specs.StoreFile.{meter_bytes, meter_in, meters_in, unlike, memory_of}
-use Rattle.sessions.specs.StoreCalls.{◌and_then◌, kept, leaves}
+use Rattle.sessions.specs.StoreCalls.{leaves}
 use Rattle.sessions.proofs.ExactLaws.{memory_of_exactly, memory_of_is, leaves_same}
 use Rattle.sessions.proofs.MetersInLaws.{length-meters_in, get_or-meters_in}
 use Rattle.sessions.proofs.OnceLaws.{unlike_once}
 use Rattle.sessions.proofs.PutLaws.{meter_of-stranger}
+use Rattle.store.specs.declared.index.Index.{Index}
 use Rattle.store.specs.Inner.{place_of, held_by, known_at}
+use Rattle.store.specs.Opened.{Opened}
 use Rattle.store.proofs.PlaceLaws.{place_of_le, place_of_held, place_of_none, meter_of_place_of}
 use Rattle.store.proofs.PutBytesLaws.{leaves_put}
 
@@ -78,18 +78,8 @@ module _ (s : List ℕ) (count : ℕ) (bytes : Bytes s) where
   pub kept_memory : held_by (memory_of s) ≡ Ok count → Kept s count
   kept_memory h = kept_of (memory_of s) refl h
 
-pub refuse_of : (r : Result Store Refusal) {why : Refusal} → held_by r ≡ Err why → r ≡ Err why
-refuse_of (Err own) h = cc
-refuse_of (Ok st) h = absurd (zero_not_one (cc))
-
-module _ (s : List ℕ) {r : Result ℕ Refusal} {why : Refusal} (is : r ≡ held_by (memory_of s)) (told : r ≡ Err why) where
-  pub refused_is : memory_of s ≡ Err why
-  refused_is = refuse_of (memory_of s) (sym is ∙ told)
-
-  pub refused_memory :
-      {A : Type 0} (refuse : Refusal → A) (tell : Store → A) (call : Store → Result Store Refusal) →
-      leaving (refuse why) s ≡ kept refuse tell s (memory_of s and_then call)
-  refused_memory refuse tell call = sym (ap (λ (x : Result Store Refusal). kept refuse tell s (x and_then call)) refused_is)
+pub opened_kept : {s : List ℕ} {m : Index} → Opened (memory_of s) s 8 m → Kept s m.count
+opened_kept {s} {m} o = kept_memory s m.count (rw o.over at m.octets) o.held
 
 module _ {s : List ℕ} {count : ℕ} (k : Kept s count) (a p : ℕ) (at : p ≡ place_of a (meters_in count (drop 8 s))) where
   pub at_place : p ≡ place_of a k.store.meters

@@ -1,4 +1,3 @@
-pub mod TestLaws
 pub mod MeterAtLaws
 pub mod IndexLaws
 pub mod PlaceLaws
@@ -11,7 +10,6 @@ pub mod OneMeterLaws
 pub mod WholeStoreLaws
 pub mod MergingLaws
 pub mod RestoredToLaws
-pub mod ArrivalLaws
 pub mod MergeLaws
 pub mod PlacedLaws
 pub mod BackupLaws

@@ -2,26 +2,27 @@
 --     Merge            what is known where this begins
 --     room_at          memory has room for the meters at each step
 --     place-lt         the next one's place is one of the 64
---     right_at         the next one's bytes are a meter
---     merge_held, merge_new    its bytes at its place: one that is held, and one that is not
+--     merge_known      its bytes at its place: one that is held, or one that is not
 -- Assumes nothing.
-use mathlib.Core.Bool.{true}
 use mathlib.Core.List.{List}
 use mathlib.Core.Path.{◌≡◌, ◌∙◌, ap, sym}
 use Prim.Native.Nat.{ℕ, suc, ◌+◌, ◌*◌, ◌≤◌, ◌<◌}
 use native.Mathlib.Omega.{arith}
+use borrow.Author.Tests.{ltb-true, ltb-false}
+use lib.Dec.{ltb}
 use lib.ListN.{length, drop}
-use lib.Seq.{sets, drop-drop}
+use lib.Seq.{sets}
 use Rattle.ground.specs.Bytes.{Bytes}
+use Rattle.ground.proofs.CaseLaws.{by_test}
 use Rattle.address.proofs.KeyLaws.{key_at_lt}
 use Rattle.sessions.specs.declared.Meter.{Meter}
 use Rattle.sessions.specs.Meters.{stranger, meter_of}
 use Rattle.sessions.specs.Changes.{merged}
-use Rattle.sessions.specs.StoreFile.{meter_bytes, meter_in, meters_in, right_meter}
-use Rattle.sessions.proofs.MetersInLaws.{right_meter_at, length-meters_in}
+use Rattle.sessions.specs.StoreFile.{meter_bytes, meter_in, meters_in}
+use Rattle.sessions.proofs.MetersInLaws.{length-meters_in}
 use Rattle.sessions.proofs.PutValidLaws.{AllFit, all_fit_meter_of}
 use Rattle.sessions.proofs.PutLaws.{meter_of-stranger}
-use Rattle.store.specs.Inner.{place_of, address_at, restored_to, MetersFrom, merging, newcomer}
+use Rattle.store.specs.Inner.{place_of, address_at, restored_to, MetersFrom, merging, known_at}
 use Rattle.store.proofs.MeterAtLaws.{key_at_drop}
 use Rattle.store.proofs.PlaceLaws.{meter_of_place_of}
 use Rattle.store.proofs.MergingLaws.{merging_put, meter_in-merging}
@@ -43,11 +44,6 @@ module _ {s : List ℕ} {count : ℕ} {file : List ℕ} {first n : ℕ} (m : Mer
     place-lt =
         let grows = length-restored_to-le s count file first (suc i) n (omega arith) in
         omega (arith, m.few, grows, place_of_next_lt s count file first i)
-
-    pub right_at : right_meter (drop (first + 20 * i) file) ≡ true
-    right_at =
-        ap right_meter (sym (drop-drop (20 * i) first file))
-        ∙ right_meter_at n (drop first file) i m.theirs.right low
 
     all_fit : AllFit (restored_to s count file first i)
     all_fit = all_fit_restored_to s count file first i m.bytes m.file_bytes
@@ -99,10 +95,9 @@ module _ {s : List ℕ} {count : ℕ} {file : List ℕ} {first n : ℕ} (m : Mer
             ∙ (merging_put s R (room_at (omega arith)) a new (omega (arith, m.room, place-lt))
             ∙ ap (merging s) (rw is (sym (restored_to-suc s count file first i)))))
 
-        pub merge_held :
-            p < count
-            → sets t (8 + 20 * p)
-            (meter_bytes (merged (meter_in (drop (8 + 20 * p) t)) (meter_in (drop (first + 20 * i) file))))
+        merge_held :
+            p < count → let own = meter_in (drop (8 + 20 * p) t) in
+            sets t (8 + 20 * p) (meter_bytes (merged own (meter_in (drop (first + 20 * i) file))))
             ≡ merging s (restored_to s count file first (suc i))
         merge_held held =
             let R = restored_to s count file first i in
@@ -110,9 +105,12 @@ module _ {s : List ℕ} {count : ℕ} {file : List ℕ} {first n : ℕ} (m : Mer
             (ap (λ (u : List ℕ). meter_in (drop (8 + 20 * p) u)) so_far
             ∙ (ap (λ (k : ℕ). meter_in (drop (8 + 20 * k) (merging s R))) placed ∙ meter_in_held (omega arith)))
 
-        pub merge_new :
-            count ≤ p
-            → sets t (8 + 20 * p) (meter_bytes (newcomer (meter_in (drop (first + 20 * i) file))))
+        pub merge_known :
+            {own : Meter} → own ≡ known_at t count p (meter_in (drop (first + 20 * i) file)).address
+            → sets t (8 + 20 * p) (meter_bytes (merged own (meter_in (drop (first + 20 * i) file))))
             ≡ merging s (restored_to s count file first (suc i))
-        merge_new new =
-            merge_next (stranger (meter_in (drop (first + 20 * i) file)).address) (stranger_new (omega arith))
+        merge_known is =
+            by_test (ltb p count) (λ held. rw (is, held) (merge_held (ltb-true p count held)))
+            (λ new. rw (is, new)
+            (merge_next (stranger (meter_in (drop (first + 20 * i) file)).address)
+            (stranger_new (omega (arith, placed, ltb-false p count new)))))

@@ -4,7 +4,10 @@
 --     meter_of_place_of, put_place_of  what is held there, and what is put there
 --     address_at_lem                    the address of a meter, as it stands in the bytes
 --     stands_at, stands_nowhere     the place where it stands, or none
+--     found_some, found_none        a place was found, or none
 -- Assumes nothing.
+use Rattle.std.specs.Prelude.{Option, Some, None}
+use Rattle.std.specs.Option.{is_some}
 use mathlib.Core.Bool.{Bool, true, false, cond, ◌||◌, true≢false}
 use mathlib.Core.List.{List, [], ◌∷◌, ◌++◌}
 use mathlib.Core.Path.{◌≡◌, refl, ◌∙◌, ap, sym}
@@ -21,7 +24,7 @@ use Rattle.sessions.specs.Meters.{stranger, meter_of, holds, put}
 use Rattle.sessions.specs.StoreFile.{meters_in, unlike}
 use Rattle.sessions.proofs.MetersInLaws.{get_or-meters_in, length-meters_in}
 use Rattle.sessions.proofs.OnceLaws.{unlike_once, holds_place, place_holds}
-use Rattle.store.specs.Inner.{place_of}
+use Rattle.store.specs.Inner.{place_of, FoundAt}
 use Rattle.store.proofs.IndexLaws.{not_true}
 use Rattle.store.proofs.MeterAtLaws.{key_at_drop}
 
@@ -137,3 +140,11 @@ stands_nowhere s first count a none =
     let low : p.at < count = omega (arith, p.inside, size) in
     none p.at low (sym (address_at_lem s first count p.at (stranger 0) low) ∙ p.here)) in
     sym size ∙ place_of_absent a ms absent
+
+pub found_some : (o : Option ℕ) {n p : ℕ} → FoundAt o n p → is_some o ≡ true → p < n
+found_some None is some = cc
+found_some (Some q) is some = omega (arith, is.0, is.1)
+
+pub found_none : (o : Option ℕ) {n p : ℕ} → FoundAt o n p → is_some o ≡ false → n ≤ p
+found_none None is none = omega (arith, is)
+found_none (Some q) is none = cc

@@ -4,7 +4,7 @@
 #![tactic(auto)]
 
 mod meters; // meters.rt: one meter: its twenty bytes, and what becomes of it
-mod places; // places.rt: where a meter stands among others
+mod index; // index.rt: the meters of a memory or a file, each found by its address
 mod judging; // judging.rt: whether bytes are a store
 mod keeping; // keeping.rt: the calls on one meter, and on the allowance
 mod restoring; // restoring.rt: a file brought into the store

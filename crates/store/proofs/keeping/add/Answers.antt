@@ -1,22 +1,21 @@
--- `keeping::add` meets its contract: the memory is judged first. Assumes nothing.
-use Rattle.std.specs.Prelude.{Err}
-use mathlib.Core.Path.{◌∙◌, sym}
+-- `keeping::add` meets its contract. Assumes nothing.
+use mathlib.Core.Path.{◌∙◌}
 use native.Mathlib.Omega.{arith}
-use Rattle.sessions.specs.Changes.{added}
-use Rattle.store.proofs.IndexLaws.{indexed_none}
-use Rattle.store.proofs.KeptLaws.{refused_memory}
+use Rattle.store.proofs.HeldLaws.{or_behind}
+use Rattle.store.proofs.KeptLaws.{opened_kept}
+use Rattle.store.proofs.OneMeterLaws.{add_full, add_put}
 use Rattle.store.proofs.keeping.add.Goals as goal
 
-pub in_memory-requires : goal.in_memory-requires
-in_memory-requires c = (omega arith, indexed_none c.args.store.now 8)
+pub returns-then-place-ge-LIMIT : goal.returns-then-place-ge-LIMIT
+returns-then-place-ge-LIMIT c =
+    let o = c.in_ok-held.ensures.held in
+    add_full (opened_kept o) c.args.address _
+    (rw (o.over, o.begins) at (c.unwrap_or-place.ensures ∙ or_behind c.find.result _ c.find.ensures)) c.args.mode
+    c.args.format (omega arith)
 
-pub add_to-requires : goal.add_to-requires
-add_to-requires c =
-    let told = c.in_memory.ensures in
-    (sym told.0 ∙ c.in-Ok.is, (omega arith, told.1 _ c.in-Ok.is))
-
-pub returns-in-Err : goal.returns-in-Err
-returns-in-Err c =
-    let a = c.args in
-    refused_memory a.store.now c.in_memory.ensures.0 c.in-Err.is Err _
-    (added a.address a.mode a.format)
+pub returns : goal.returns
+returns c =
+    let o = c.in_ok-held.ensures.held in
+    add_put (opened_kept o) c.args.address _
+    (rw (o.over, o.begins) at (c.unwrap_or-place.ensures ∙ or_behind c.find.result _ c.find.ensures)) c.args.mode
+    c.args.format (omega arith) c.known-own.ensures c.keep.ensures.0 c.keep.ensures.1

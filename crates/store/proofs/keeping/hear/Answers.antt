@@ -1,22 +1,15 @@
--- `keeping::hear` meets its contract: the memory is judged first. Assumes nothing.
-use Rattle.std.specs.Prelude.{Err}
-use mathlib.Core.Path.{◌∙◌, sym}
-use native.Mathlib.Omega.{arith}
-use Rattle.sessions.specs.Changes.{hearing}
-use Rattle.store.proofs.IndexLaws.{indexed_none}
-use Rattle.store.proofs.KeptLaws.{refused_memory}
+-- `keeping::hear` meets its contract. Assumes nothing.
+use borrow.Author.Rules.{rules}
+use Rattle.store.proofs.OneMeterLaws.{hear_none, hear_held}
 use Rattle.store.proofs.keeping.hear.Goals as goal
 
-pub in_memory-requires : goal.in_memory-requires
-in_memory-requires c = (omega arith, indexed_none c.args.store.now 8)
+pub returns-in_err-place : goal.returns-in_err-place
+returns-in_err-place c =
+    let none = hear_none c.in_ok-held.ensures.held c.args.address c.find.result c.find.ensures
+    c.in_err-place.ensures.value c.args.number in
+    search rules
 
-pub hear_in-requires : goal.hear_in-requires
-hear_in-requires c =
-    let told = c.in_memory.ensures in
-    (sym told.0 ∙ c.in-Ok.is, (omega arith, told.1 _ c.in-Ok.is))
-
-pub returns-in-Err : goal.returns-in-Err
-returns-in-Err c =
-    let a = c.args in
-    refused_memory a.store.now c.in_memory.ensures.0 c.in-Err.is Err _
-    (hearing a.address a.number)
+pub returns : goal.returns
+returns c =
+    hear_held c.in_ok-held.ensures.held c.args.address c.find.result c.find.ensures c.in_ok-place.ensures.value
+    c.at-own.ensures c.args.number c.keep.ensures.0 (rw (← c.max.ensures) c.keep.ensures.1)

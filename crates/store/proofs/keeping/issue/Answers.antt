@@ -1,22 +1,32 @@
--- `keeping::issue` meets its contract: the memory is judged first. Assumes nothing.
-use Rattle.std.specs.Prelude.{Err}
-use mathlib.Core.Path.{◌∙◌, sym}
+-- `keeping::issue` meets its contract. Assumes nothing.
+use Prim.Native.Nat.{◌+◌}
 use native.Mathlib.Omega.{arith}
-use Rattle.sessions.specs.Changes.{issued}
-use Rattle.store.proofs.IndexLaws.{indexed_none}
-use Rattle.store.proofs.KeptLaws.{refused_memory}
+use borrow.Author.Rules.{rules}
+use Rattle.store.proofs.HeldLaws.{next_number, used_up}
+use Rattle.store.proofs.OneMeterLaws.{issue_none, issue_unsure, issue_last, issue_held}
 use Rattle.store.proofs.keeping.issue.Goals as goal
 
-pub in_memory-requires : goal.in_memory-requires
-in_memory-requires c = (omega arith, indexed_none c.args.store.now 8)
+pub returns-in_err-place : goal.returns-in_err-place
+returns-in_err-place c =
+    let none = issue_none c.in_ok-held.ensures.held c.args.address c.find.result c.find.ensures
+    c.in_err-place.ensures.value in
+    search rules
 
-pub issue_in-requires : goal.issue_in-requires
-issue_in-requires c =
-    let told = c.in_memory.ensures in
-    (sym told.0 ∙ c.in-Ok.is, (omega arith, told.1 _ c.in-Ok.is))
+pub returns-then-own : goal.returns-then-own
+returns-then-own c =
+    issue_unsure c.in_ok-held.ensures.held c.args.address c.find.result c.find.ensures c.in_ok-place.ensures.value
+    c.at-own.ensures c.if-own.true
 
-pub returns-in-Err : goal.returns-in-Err
-returns-in-Err c =
-    let a = c.args in
-    refused_memory a.store.now c.in_memory.ensures.0 c.in-Err.is Err _
-    (issued a.address)
+pub returns-in_err-number : goal.returns-in_err-number
+returns-in_err-number c =
+    let used = used_up c.checked_add.result (c.at-own.result.number + 1) c.checked_add.ensures c.in_err-number.ensures.value in
+    let last = issue_last c.in_ok-held.ensures.held c.args.address c.find.result c.find.ensures
+    c.in_ok-place.ensures.value c.at-own.ensures c.if-own.false (omega (arith, used.0)) in
+    search rules
+
+pub returns : goal.returns
+returns c =
+    let next = next_number c.checked_add.result c.checked_add.ensures c.in_ok-number.ensures.value in
+    rw next.1
+    (issue_held c.in_ok-held.ensures.held c.args.address c.find.result c.find.ensures c.in_ok-place.ensures.value
+    c.at-own.ensures c.if-own.false next.0 (rw (← next.1) c.keep.ensures.1))

@@ -1,20 +1,15 @@
--- `keeping::look_up` meets its contract: the memory is judged first. Assumes nothing.
-use mathlib.Core.Path.{◌∙◌, ap, sym}
-use native.Mathlib.Omega.{arith}
-use Rattle.sessions.specs.StoreCalls.{found}
-use Rattle.store.proofs.IndexLaws.{indexed_none}
-use Rattle.store.proofs.KeptLaws.{refused_is}
+-- `keeping::look_up` meets its contract. Assumes nothing.
+use borrow.Author.Rules.{rules}
+use Rattle.store.proofs.OneMeterLaws.{look_none, look_held}
 use Rattle.store.proofs.keeping.look_up.Goals as goal
 
-pub in_memory-requires : goal.in_memory-requires
-in_memory-requires c = (omega arith, indexed_none c.args.store.now 8)
+pub returns-in_err-place : goal.returns-in_err-place
+returns-in_err-place c =
+    let none = look_none c.in_ok-held.ensures.held c.args.address c.find.result c.find.ensures
+    c.in_err-place.ensures.value in
+    search rules
 
-pub look_in-requires : goal.look_in-requires
-look_in-requires c =
-    let told = c.in_memory.ensures in
-    (sym told.0 ∙ c.in-Ok.is, (omega arith, told.1 _ c.in-Ok.is))
-
-pub returns-in-Err : goal.returns-in-Err
-returns-in-Err c =
-    let a = c.args in
-    sym (ap (found a.address) (refused_is a.store.now c.in_memory.ensures.0 c.in-Err.is))
+pub returns : goal.returns
+returns c =
+    look_held c.in_ok-held.ensures.held c.args.address c.find.result c.find.ensures c.in_ok-place.ensures.value
+    c.at.ensures

@@ -1,26 +1,36 @@
--- `restoring::restore` meets its contract: the memory is judged first. Assumes nothing.
-use Rattle.std.specs.Prelude.{Err}
-use mathlib.Core.Path.{◌∙◌, sym}
+-- `restoring::restore` meets its contract: the places first, and nothing is written if there are too many.
+-- Assumes nothing.
+use mathlib.Core.Path.{◌∙◌}
 use native.Mathlib.Omega.{arith}
-use Rattle.sessions.specs.Changes.{restored_by}
-use Rattle.sessions.specs.StoreFile.{file_of}
-use Rattle.sessions.specs.StoreCalls.{◌and_then◌}
-use Rattle.store.proofs.IndexLaws.{indexed_none}
-use Rattle.store.proofs.KeptLaws.{refused_memory}
+use Rattle.store.proofs.KeptLaws.{opened_kept}
+use Rattle.store.proofs.BackupLaws.{opened_backup}
+use Rattle.store.proofs.RestoringLaws.{restore_full, restore_all}
 use Rattle.store.proofs.restoring.restore.Goals as goal
 
-pub in_memory-requires : goal.in_memory-requires
-in_memory-requires c =
-    let a = c.args in
-    (omega arith, indexed_none a.store.now 8)
+pub returns-then-total-gt-LIMIT : goal.returns-then-total-gt-LIMIT
+returns-then-total-gt-LIMIT c =
+    let o = c.in_ok-held.ensures.held in
+    let t = c.in_ok-theirs.ensures in
+    restore_full (opened_kept o) c.args.file.now (opened_backup t) t.begins
+    (rw (o.over, t.over) at c.places_in-total.ensures.0) c.if-total-gt-LIMIT.true
 
-pub restore_to-requires : goal.restore_to-requires
-restore_to-requires c =
-    let told = c.in_memory.ensures in
-    (sym told.0 ∙ c.in-Ok.is, (omega arith, told.1 _ c.in-Ok.is))
+pub merge_all-requires : goal.merge_all-requires
+merge_all-requires c =
+    let o = c.in_ok-held.ensures.held in
+    let own = c.in_ok-held.held in
+    let plan = rw o.over at c.places_in-total.ensures in
+    record {
+      bytes = rw o.over at own.octets;
+      own = rw (o.over, o.begins) at own.meters;
+      room = c.in_ok-held.ensures.room;
+      few = omega (arith, plan.0);
+      placed = plan.1;
+    }
 
-pub returns-in-Err : goal.returns-in-Err
-returns-in-Err c =
-    let a = c.args in
-    refused_memory a.store.now c.in_memory.ensures.0 c.in-Err.is Err _
-    (λ st. file_of a.file.now and_then (λ backup. restored_by backup st))
+pub returns : goal.returns
+returns c =
+    let o = c.in_ok-held.ensures.held in
+    let t = c.in_ok-theirs.ensures in
+    restore_all (opened_kept o) c.args.file.now (opened_backup t) t.begins
+    (rw (o.over, t.over) at c.places_in-total.ensures.0) c.if-total-gt-LIMIT.false (rw t.over at c.merge_all.ensures)
+    (c.put_number.ensures ∙ rw c.allowance_of.ensures)

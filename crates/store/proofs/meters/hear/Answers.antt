@@ -1,5 +1,0 @@
--- `meters::hear` meets its contract. Assumes nothing.
-use Rattle.store.proofs.meters.hear.Goals as goal
-
-pub returns : goal.returns
-returns c = rw c.larger.ensures
