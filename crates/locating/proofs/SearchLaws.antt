@@ -6,15 +6,11 @@
 --     search_on        how it goes on, with one more kept
 --     found            how it ends
 -- Assumes nothing.
-use Rattle.std.specs.Prelude.{Option, None, Some}
-use mathlib.Core.List.{List, [], ◌∷◌, ◌++◌}
-use mathlib.Core.Path.{◌≡◌, refl, sym, ap, subst, ◌∙◌}
-use Prim.Native.Nat.{ℕ, zero, suc, ◌-◌, ◌+◌, ◌≤◌, ◌<◌}
-use native.Mathlib.Omega.{arith}
-use borrow.Author.Tests.{eqb-true, eqb-false}
-use lib.Dec.{eqb}
-use lib.ListN.{length, get_or, drop, set, replicate, length-set, get_or-replicate, length-append, length-drop, get_or-eq_default}
-use lib.Seq.{get_or-set_same, get_or-set_other, get_or-drop}
+use Rattle.std.proofs.Common.{Option, None, Some, List, [], ◌∷◌, ◌++◌, ◌≡◌, refl, sym, ap, subst, ◌∙◌, ℕ, zero, suc}
+use Rattle.std.proofs.Common.{◌-◌, ◌+◌, ◌≤◌, ◌<◌, arith, eqb-true, eqb, length, get_or, drop, set, replicate}
+use Rattle.std.proofs.Common.{length-set, length-append, length-drop, get_or-set_same, get_or-set_other, get_or-drop}
+use borrow.Author.Tests.{eqb-false}
+use lib.ListN.{get_or-replicate, get_or-eq_default}
 use Rattle.ground.specs.Bytes.{Bytes}
 use Rattle.ground.proofs.ByteLaws.{bytes-nil, bytes-cons, bytes-append, bytes_drop, bytes-set}
 use Rattle.ground.proofs.CaseLaws.{by_test}
