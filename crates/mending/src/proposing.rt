@@ -6,8 +6,9 @@ ghost use Rattle.proposals.specs.Proposals.{proposing_of};
 
 use crate::several::mend_sixteen;
 use crate::single::mend_one;
-use crate::words::{CHECKS, CORRECTION, HEADER, size_in};
+use crate::words::size_in;
 use answers::Refusal;
+use correction::{CHECKS, CORRECTION, HEADER};
 use frame::Format;
 
 // The received word, from the first byte of out on.
@@ -15,11 +16,13 @@ fn put_received(s: &[u8], size: usize, out: &mut [u8])
     requires { (size + 34 ≤ length s.now) × (size + 32 ≤ length out.old) }
     ensures { out.new ≡ received size s.now ++ drop (size + 32) out.old }
 {
-    blocks::copy_part(s, 0, size, out, 0);
-    blocks::copy_part(s, size + HEADER, CHECKS, out, size);
+    let checks = size + HEADER;
+    out[..size].copy_from_slice(&s[..size]);
+    out[size..size + CHECKS].copy_from_slice(&s[checks..checks + CHECKS]);
 }
 
 // Places the received word of s in out, if s has all of it and out has room; bytes of out after it stay.
+#[tactic(auto, unfolding(proposals::specs::Proposals::proposing_of, proposals::specs::Proposals::proposing_by))]
 fn receive(f: Format, s: &[u8], out: &mut [u8]) -> Result<usize, Refusal>
     ensures { leaving result out.new ≡ proposing_of 0 f s.now out.old }
 {

@@ -130,24 +130,21 @@ module _ (j : ℕ) (f : Format) (s d : List ℕ) {m : List ℕ} {n : ℕ}
 
 -- the memory cut at its word, as a slice of it is lent and comes back
 module _ {f : Format} {s d m : List ℕ} {n : ℕ} (p : Placed 0 f s d n m) where
-  whole : n - 0 ≡ p.size + 32
-  whole = omega (arith, p.is)
-
   placed_word : m ≡ received p.size s ++ drop (p.size + 32) d
   placed_word =
       p.memory ∙ ap (λ (w : List ℕ). w ++ drop (p.size + 32) d) (nearest_zero (received p.size s))
 
-  pub word_in : take (n - 0) m ≡ received p.size s
+  pub word_in : take n m ≡ received p.size s
   word_in =
-      ap₂ take whole placed_word
+      ap₂ take p.is placed_word
       ∙ take_at (received p.size s) (drop (p.size + 32) d) (p.size + 32) (length-received s p.size p.there)
 
-  after : drop (n - 0) m ≡ drop (p.size + 32) d
+  after : drop n m ≡ drop (p.size + 32) d
   after =
-      ap₂ drop whole placed_word
+      ap₂ drop p.is placed_word
       ∙ drop_at (received p.size s) (drop (p.size + 32) d) (p.size + 32) (length-received s p.size p.there)
 
-  pub length_word : length (take (n - 0) m) ≡ p.size + 32
+  pub length_word : length (take n m) ≡ p.size + 32
   length_word = ap length word_in ∙ length-received s p.size p.there
 
   length_placed : length m ≡ length (received p.size s) + length (drop (p.size + 32) d)
@@ -157,28 +154,28 @@ module _ {f : Format} {s d m : List ℕ} {n : ℕ} (p : Placed 0 f s d n m) wher
   room_in = omega (arith, length_placed, length-received s p.size p.there, p.is)
 
   -- the word of the memory replaced by what is proposed
-  pub proposal_put : (k : ℕ) {w : List ℕ} → w ≡ nearest_of k (take (n - 0) m)
-      → leaving (Ok n) (w ++ drop (n - 0) m) ≡ proposing_of k f s d
+  pub proposal_put : (k : ℕ) {w : List ℕ} → w ≡ nearest_of k (take n m)
+      → leaving (Ok n) (w ++ drop n m) ≡ proposing_of k f s d
   proposal_put k e =
       ap₂ (λ (a : ℕ) (l : List ℕ). leaving (Ok a) l) p.is
       (ap₂ (λ (a b : List ℕ). a ++ b) (e ∙ ap (nearest_of k) word_in) after)
       ∙ sym (p.proposed k)
 
-  pub again_room : (w : List ℕ) → length w ≡ length (take (n - 0) m) → n - 32 + 32 ≤ length (w ++ drop (n - 0) m)
+  pub again_room : (w : List ℕ) → length w ≡ length (take n m) → n - 32 + 32 ≤ length (w ++ drop n m)
   again_room w count =
-      omega (arith, p.is, length-append w (drop (n - 0) m), count, length_word)
+      omega (arith, p.is, length-append w (drop n m), count, length_word)
 
-  same_again : (w : List ℕ) → length w ≡ length (take (n - 0) m)
-      → received (n - 32) s ++ drop (n - 32 + 32) (w ++ drop (n - 0) m) ≡ take (n - 0) m ++ drop (n - 0) m
+  same_again : (w : List ℕ) → length w ≡ length (take n m)
+      → received (n - 32) s ++ drop (n - 32 + 32) (w ++ drop n m) ≡ take n m ++ drop n m
   same_again w count =
       let z : n - 32 ≡ p.size = omega (arith, p.is) in
       ap₂ (λ (a b : List ℕ). a ++ b) (ap (λ (j : ℕ). received j s) z ∙ sym word_in)
-      (drop_at w (drop (n - 0) m) (n - 32 + 32) (omega (arith, count, length_word, p.is)))
+      (drop_at w (drop n m) (n - 32 + 32) (omega (arith, count, length_word, p.is)))
 
   -- the received word placed once more, over what was made of it
-  pub placed_again : (k : ℕ) (w : List ℕ) {l : List ℕ} → length w ≡ length (take (n - 0) m)
-      → l ≡ received (n - 32) s ++ drop (n - 32 + 32) (w ++ drop (n - 0) m)
-      → take (n - 0) m ≡ nearest_of k (take (n - 0) m)
+  pub placed_again : (k : ℕ) (w : List ℕ) {l : List ℕ} → length w ≡ length (take n m)
+      → l ≡ received (n - 32) s ++ drop (n - 32 + 32) (w ++ drop n m)
+      → take n m ≡ nearest_of k (take n m)
       → leaving (Ok n) l ≡ proposing_of k f s d
   placed_again k w count e still =
       ap (λ (l : List ℕ). leaving (Ok n) l) (e ∙ same_again w count)

@@ -9,12 +9,12 @@ code_word-requires c =
     let bounds = c.requires.1 in
     (rw length-set bounds.0, rw length-set bounds.1)
 
-pub returns-then-code_word : goal.returns-then-code_word
-returns-then-code_word c =
-    rw (sym c.code_word.ensures ∙ c.if-code_word.true) refl
+pub returns-else-not-code_word : goal.returns-else-not-code_word
+returns-else-not-code_word c =
+    rw (sym c.code_word.ensures ∙ c.if-not-code_word.false) refl
 
-pub returns : goal.returns
-returns c =
+pub returns-then-not-code_word : goal.returns-then-not-code_word
+returns-then-not-code_word c =
     let a = c.args in
-    set-set a.w.now a.place _ _ ∙ set-get_or a.w.now a.place 0
-    ∙ sym (rw (sym c.code_word.ensures ∙ c.if-code_word.false) refl)
+    set-set a.w.now a.fault.place _ _ ∙ set-get_or a.w.now a.fault.place 0
+    ∙ sym (rw (sym c.code_word.ensures ∙ c.if-not-code_word.true) refl)
