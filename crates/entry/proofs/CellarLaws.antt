@@ -2,7 +2,7 @@
 -- is proposed then.
 --     place_inside     the byte is one of those that were written
 --     cellar_made      a proposal is made
---     cellar_taken     and taken
+--     cellar_taken     it is taken
 --     cellar_read      and reading it is reading s
 -- Assumes nothing.
 use mathlib.Core.List.{List}
@@ -82,8 +82,11 @@ module _ (f : Format) (s sent lent : List ℕ) (size place byte : ℕ) (bytes : 
         let made = ap (λ (o : Outcome (Result ℕ Refusal)). o.answer) proposed in
         zero_not_one (let is = sym again.answer ∙ (answer ∙ (sym made ∙ e)) in cc)
 
-    pub cellar_taken : (k : ℕ) × (proposal_of f out (set sent place byte) ≡ Ok k)
-    cellar_taken = (_, rw (out_is, memory_is) at again.taken)
+    -- nor is this
+    pub cellar_taken : (r : Refusal) → proposal_of f out (set sent place byte) ≡ Err r → ⊥
+    cellar_taken r e =
+        let taken = rw (out_is, memory_is) at again.taken in
+        zero_not_one (let is = sym taken ∙ e in cc)
 
     pub cellar_read : (room : List ℕ) → reading_of f out room ≡ reading_of f s room
     cellar_read room = rw out_is at (again.read room)
