@@ -36,13 +36,15 @@ returns-in_default c =
 pub join-x-requires : goal.join-x-requires
 join-x-requires c =
     let inv = c.loop-k.invariant in
-    let is = valueAt-read (goal.at.join-x-requires c).After-word_value ∙ (c.in-Some.is ∙ ap Some (sym c.from.ensures)) in
+    let is = valueAt-read (goal.at.join-x-requires c).After-word_value
+    ∙ (c.in-Some.is ∙ ap Some (sym c.from.ensures)) in
     omega (arith, sizes-le inv.sizes, joining_room inv c.loop-k-test.true is)
 
 pub loop-k-preserved : goal.loop-k-preserved
 loop-k-preserved c =
     let inv = c.loop-k.invariant in
-    let is = valueAt-read (goal.at.loop-k-preserved c).After-word_value ∙ (c.in-Some.is ∙ ap Some (sym c.from.ensures)) in
+    let is = valueAt-read (goal.at.loop-k-preserved c).After-word_value
+    ∙ (c.in-Some.is ∙ ap Some (sym c.from.ensures)) in
     rw c.join-x.ensures (joining_step inv c.loop-k-test.true is)
 
 pub overflow_cast-result : goal.overflow_cast-result
