@@ -2,6 +2,7 @@
 --     clean_nearest    a code word is itself proposed
 --     remains          the remainder of a word has its values at the roots
 --     points_located   the values of the remainder at the first two roots tell where the wrong byte is, if one is
+--     fault_points     as the code has them
 --     none_nearest     where none is, the word itself is proposed
 --     still_nearest    and so it is where none but the first could be wrong
 --     tried_nearest    where one may be, what comes out of trying
@@ -94,6 +95,14 @@ module _ (w : List ℕ) (end : ℕ) (bytes : Bytes w) (size : end + 32 ≡ lengt
           near = λ c n.
               ⊎_elim (same_word c n.code_word) (one_byte c n) (differ_one w c (sym n.count) n.few);
         }
+
+-- the fault as the code finds it, from the remainder
+pub fault_points : (w : List ℕ) {rest : List ℕ} {r : Option Fault} → Bytes w → 32 ≤ length w → length w ≤ 255
+    → rest ≡ remainder_of w
+    → Locates (value_at (alpha_to 212) rest) (value_at (alpha_to 223) rest) (length w) r → Points w r
+fault_points w bytes long most is at =
+    points_located w (length w - 32) bytes (omega arith) most (ap (value_at (alpha_to 212)) is)
+    (ap (value_at (alpha_to 223)) is) at
 
 -- ---- what is proposed
 

@@ -5,7 +5,7 @@ ghost use Rattle.std.specs.Prelude.{◌≡◌, ◌≤◌, ◌<◌, length};
 ghost use Rattle.field.specs.Field.{alpha_to};
 ghost use Rattle.field.specs.Polynomials.{value_at};
 ghost use Rattle.proposals.specs.Near.{nearest_of};
-ghost use Rattle.mending.specs.Inner.{Locates, Points, Tried};
+ghost use Rattle.mending.specs.Inner.{Locates, Tried};
 
 use crate::words::{code_word, remainder};
 use products::Tables;
@@ -56,17 +56,9 @@ fn located(rest: &[u8], n: usize) -> Option<Fault>
     locate(&tables, x, y, n)
 }
 
-// The wrong byte of a word: that of the code word near it, if there is one.
-fn fault_in(w: &[u8]) -> Option<Fault>
-    requires { (32 ≤ length w.now) × (length w.now ≤ 255) }
-    ensures { Points w.now result }
-{
-    located(&remainder(w), w.len())
-}
-
 // Adds the fault's error at its place if that makes w a code word.
 fn try_at(w: &mut [u8], fault: Fault)
-    requires { (fault.place < length w.old) × ((32 ≤ length w.old) × (length w.old ≤ 255)) }
+    requires { (fault.place < length w.old) × (32 ≤ length w.old) }
     ensures { Tried w.old fault w.new }
 {
     let old = w[fault.place];
@@ -81,7 +73,7 @@ pub(crate) fn mend_one(w: &mut [u8])
     requires { (32 ≤ length w.old) × (length w.old ≤ 255) }
     ensures { w.new ≡ nearest_of 1 w.old }
 {
-    if let Some(fault) = fault_in(w) {
+    if let Some(fault) = located(&remainder(w), w.len()) {
         if fault.place != LENGTH_BYTE {
             try_at(w, fault);
         }

@@ -1,4 +1,5 @@
-// Words: a frame and its 32 check bytes.
+// Words: a frame and its 32 check bytes. That a word has these is a clause and no struct's fact: judging would need one
+// that holds a `&`, mending one that holds a `&mut`.
 ghost use Rattle.std.specs.Prelude.{IfOk, ◌≡◌, ◌≤◌, length};
 ghost use Rattle.ground.specs.Apart.{apart};
 ghost use Rattle.proposals.specs.Received.{size_in};
@@ -46,7 +47,7 @@ pub(crate) fn remainder(w: &[u8]) -> [u8; CHECKS]
 
 // Whether a word is a code word: its check bytes are worked out afresh and compared. No other 32 bytes would do.
 pub(crate) fn code_word(w: &[u8]) -> bool
-    requires { (32 ≤ length w.now) × (length w.now ≤ 255) }
+    requires { 32 ≤ length w.now }
     ensures { result ≡ is_code_block w.now }
 {
     let end = w.len() - CHECKS;

@@ -6,8 +6,7 @@ use Rattle.mending.proofs.single.try_at.Goals as goal
 
 pub code_word-requires : goal.code_word-requires
 code_word-requires c =
-    let bounds = c.requires.1 in
-    (rw length-set bounds.0, rw length-set bounds.1)
+    rw length-set c.requires.1
 
 pub returns-else-not-code_word : goal.returns-else-not-code_word
 returns-else-not-code_word c =
