@@ -77,16 +77,16 @@ module _ (f : Format) (s sent lent : List ℕ) (size place byte : ℕ) (bytes : 
 
     -- a proposal is made, so that this is no refusal
     pub cellar_made : (r : Refusal) → a ≡ Err r → ⊥
-    cellar_made r e =
+    cellar_made r refused =
         let answer = ap (λ (l : List ℕ). (proposing_of 1 f (set l place byte) e).answer) memory_is in
         let made = ap (λ (o : Outcome (Result ℕ Refusal)). o.answer) proposed in
-        zero_not_one (let is = sym again.answer ∙ (answer ∙ (sym made ∙ e)) in cc)
+        zero_not_one (let is = sym again.answer ∙ (answer ∙ (sym made ∙ refused)) in cc)
 
     -- nor is this
     pub cellar_taken : (r : Refusal) → proposal_of f out (set sent place byte) ≡ Err r → ⊥
-    cellar_taken r e =
+    cellar_taken r refused =
         let taken = rw (out_is, memory_is) at again.taken in
-        zero_not_one (let is = sym taken ∙ e in cc)
+        zero_not_one (let is = sym taken ∙ refused in cc)
 
     pub cellar_read : (room : List ℕ) → reading_of f out room ≡ reading_of f s room
     cellar_read room = rw out_is at (again.read room)

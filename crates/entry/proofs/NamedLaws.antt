@@ -109,6 +109,7 @@ pub soft_receiver :
     → header_reading_of s ≡ Ok (g, k) → told r row ≡ told_maker (maker_of g.receiver.m)
     → (get_or row 4 0 ≡ 1) ↔ (128 ≤ get_or s 4 0)
 soft_receiver s h g n k bytes accepted has read e =
-    let same : g ≡ h = cc in
+    let read_alike : (g, k) ≡ (h, n) = (let both = sym read ∙ accepted in cc) in
+    let same = ap (λ (p : Header × ℕ). p.0) read_alike in
     let place = soft_addresses.of_the_receiver s h n accepted has in
     soft_received s 3 g.receiver.m bytes (ap (λ (x : Header). x.receiver.m) same ∙ place) e

@@ -17,19 +17,19 @@ returns-in_err-propose_one c =
     let a = c.args in
     absurd (cellar_made a.f a.s.now a.sent.now c.requires.0 a.size a.place a.byte (λ j. search rules) c.requires.1
     c.if-place-lt1.false c.if-size-place.false (omega arith) a.proposal.now c.if-proposal-size.false
-    c.propose_one.ensures _ (c.in_err-propose_one.was tt))
+    c.propose_one.ensures _ (c.in_err-propose_one.was))
 
 pub returns-in_err-judge : goal.returns-in_err-judge
 returns-in_err-judge c =
     let a = c.args in
     absurd (cellar_taken a.f a.s.now a.sent.now c.requires.0 a.size a.place a.byte (λ j. search rules) c.requires.1
     c.if-place-lt1.false c.if-size-place.false (omega arith) a.proposal.now c.if-proposal-size.false
-    c.propose_one.ensures _ (sym c.judge.ensures ∙ c.in_err-judge.was tt))
+    c.propose_one.ensures _ (sym c.judge.ensures ∙ c.in_err-judge.was))
 
-pub returns-in_ok-judge : goal.returns-in_ok-judge
-returns-in_ok-judge c =
+pub returns : goal.returns
+returns c =
     let a = c.args in
-    c.read.ensures
+    c.read-2.ensures
     ∙ cellar_read a.f a.s.now a.sent.now c.requires.0 a.size a.place a.byte (λ j. search rules) c.requires.1
     c.if-place-lt1.false c.if-size-place.false (omega arith) a.proposal.now c.if-proposal-size.false
     c.propose_one.ensures a.d.now
