@@ -115,6 +115,16 @@ def functions(path, public):
             yield Item(str(path), m.group(3), lines[no:end + 1])
 
 
+def ghosts(path):
+    """The ghost fields and ghost members of a source file: what a type, a trait or an impl promises of itself."""
+    lines = code(path)
+    for no, line in enumerate(lines):
+        m = re.match(r"\s+ghost (\w+)\s*[:=]", line)
+        if m:
+            end = next(k for k in range(no, len(lines)) if lines[k].endswith((";", ",")))
+            yield Item(str(path), m.group(1), lines[no:end + 1])
+
+
 class House:
     """Every definition of the crates, and what each file calls by which name."""
 
@@ -132,7 +142,7 @@ class House:
                 self.defined[key] = item
                 self.types[path.parts[1], item.name] = key
             self.public += functions(path, True)
-            self.inner += functions(path, False)
+            self.inner += [*functions(path, False), *ghosts(path)]
         read = []
         for path in sorted(crates.glob("*/specs/*.antt")) + sorted(crates.glob("*/proofs/*.antt")):
             module = f"Rattle.{path.parts[1]}.{path.parts[2]}" + ("" if path.stem == "Lib" else "." + path.stem)

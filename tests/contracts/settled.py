@@ -19,17 +19,17 @@ from collections import namedtuple
 from pathlib import Path
 
 # public functions that may ask something of their caller (D23); none of them is an entry point or exported
-ASKING = {"chips::word", "chips::narrow", "blocks::first_wrong", "blocks::copy_part", "blocks::take_out",
-          "blocks::put_all", "blocks::set_byte", "address::two_at", "address::name_at", "address::put_four",
-          "address::put_name", "address::four_at", "address::key_at", "address::put_number", "address::put_key",
+ASKING = {"chips::word", "chips::narrow", "blocks::Cut::first_wrong", "blocks::Cut::take_out", "blocks::Cut::put_all",
+          "blocks::Cut::set_byte", "frame::FormatA::length_byte", "frame::FormatB::length_byte",
+          "frame::FormatA::size", "frame::FormatB::size", "address::two_at", "address::name_at", "address::put_four", "address::put_name",
+          "address::four_at", "address::key_at", "address::put_number", "address::put_key",
           "products::Tables::times_power", "products::Tables::ratio", "products::Tables::value_at",
-          "products::Tables::combine",
-          "locating::locate", "repairing::repair"}
+          "products::Tables::combine", "repairing::repair"}
 # clauses beside the equation, by name: document 01's own words on the update (D20); they allow no other answer
 BESIDE = {("crc::update", "mends")}
-# facts that settle and are no equation with a definition, word for word: a byte is itself, and below 256; the other
-# two by theorems of their own (products/proofs/SettledLaws)
-OTHERWISE = {"chips::wide": ["result ≡ b", "result < 256"], "products::Tables::ratio": ["mul result b ≡ a"]}
+# facts that settle and are no equation with a definition, word for word (products/proofs/SettledLaws)
+OTHERWISE = {"products::Tables::ratio": ["mul result b ≡ a"],
+             "products::Tables::new": ["TablesOk result.powers result.logs"]}
 # public functions that leave something open, and on purpose (D111): nobody sees it but the crate above. None of them is
 # an entry point or exported
 LEFT_OPEN = {"locating::locate", "repairing::repair"}
@@ -41,6 +41,8 @@ HOMES = {"◌≡◌": "Rattle.std.specs.Prelude", "leaving": "Rattle.answers.spe
          "told": "Rattle.kusikhut.specs.Told", "shown": "Rattle.kusikhut.specs.Told"}
 
 FUNCTION = re.compile(r'^( *)pub (extern "C" )?fn (\w+)(.*?)\s\{\n', re.S | re.M)
+TRAIT = re.compile(r"^pub trait (\w+) \{\n(.*?)^\}", re.S | re.M)
+METHOD = re.compile(r"^    fn (\w+)(.*?);$", re.S | re.M)
 PUBLIC = re.compile(r'^\s*pub\b[^(\n]*\bfn ', re.M)
 IMPORT = re.compile(r"^(?:ghost )?use ([^\s{;]+)\.\{([^}]*)\};?$", re.M)
 CLAUSE = re.compile(r"\s*(requires|ensures)(?: (\w+))? \{")
@@ -64,6 +66,16 @@ def functions(crate, text):
     for m in FUNCTION.finditer(text):
         types = re.findall(r"^impl(?:<[^>]*>)? (\w+)", text[:m.start()], re.M) if m[1] else []
         yield Function("::".join([crate, *types[-1:], m[3]]), bool(m[2]), m[4], imports(crate, text))
+
+
+def trait_functions(crate, text):
+    """The functions of a source file's public traits, once for each type that has them: the trait has their contracts,
+    over ghost members that each type gives."""
+    for name, body in TRAIT.findall(text):
+        given = {ghost: f"Rattle.{crate}.specs.declared.{name}" for ghost in re.findall(r"^    ghost (\w+):", body, re.M)}
+        for of in re.findall(rf"^impl {name} for (\w+)", text, re.M):
+            for method, head in METHOD.findall(body):
+                yield Function(f"{crate}::{of}::{method}", False, head, {**imports(crate, text), **given})
 
 
 def parts(head):
@@ -225,6 +237,7 @@ PLANTED = [
     ("header/src/access.rt", "{ result ≡ access_of cc }", "{ result ≡ bit_xor 0 result }", "header::announced"),
     ("kusikhut_c/src/crc_calls.rt", "ensures { result ≡", "requires { 1 ≡ 0 }\n    ensures { result ≡",
      "kusikhut_c::kusikhut_check"),
+    ("frame/src/lib.rt", "result ≡ size_for format l }", "result ≡ size_for format result }", "frame::FormatA::frame_size"),
     ("channels/src/plan.rt", "specs.Plan.{float, row_of,", "specs.Made.{float, row_of,", "channels::row_at"),
 ]
 # what is planted in an exported function alone, so that it is kusikhut's no longer
@@ -241,7 +254,8 @@ def self_test():
     wrong += ["a function of D23 may ask nothing"] if found(ONE + ASKS, "chips::word") else []
     for file, old, new, name in PLANTED:
         text = Path("crates", file).read_text(encoding="utf-8")
-        opened = {f.name for f in functions(file.split("/")[0], text.replace(old, new)) if faults(f)}
+        crate, planted = file.split("/")[0], text.replace(old, new)
+        opened = {f.name for f in [*functions(crate, planted), *trait_functions(crate, planted)] if faults(f)}
         if old not in text or name not in opened:
             wrong.append(f"planted in {file} and not found: {new}")
     ours = list(functions("kusikhut", Path("crates/kusikhut/src/crc_calls.rt").read_text(encoding="utf-8")))
@@ -262,6 +276,7 @@ def main():
         here = list(functions(path.parts[1], text))
         if len(here) != len(PUBLIC.findall(text)):
             wrong.append(f"{path}: a public function's head was not found; heads are read as rt fmt lays them out")
+        here += trait_functions(path.parts[1], text)
         met += here
         wrong += [f"{path}: {function.name}: {fault}" for function in here for fault in faults(function)]
     wrong += apart(met)
