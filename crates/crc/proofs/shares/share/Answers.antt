@@ -1,10 +1,8 @@
 use mathlib.Core.Path.{◌≡◌, sym, ap, ◌∙◌}
-use Prim.Native.Nat.{ℕ, ◌/◌, ◌^◌}
-use native.Mathlib.Nat.{div-one}
+use Prim.Native.Nat.{ℕ, ◌/◌}
 use native.Mathlib.Omega.{arith}
-use borrow.Author.Rules.{rules}
 use Rattle.crc.specs.CheckUpdate.{share_of}
-use Rattle.crc.proofs.ShareLaws.{share_of_zero, share_of_next, bit-mul-lt}
+use Rattle.crc.proofs.ShareLaws.{share_of_zero, share_of_next}
 use Rattle.crc.proofs.shares.share.Goals as goal
 
 pub loop-k-init : goal.loop-k-init

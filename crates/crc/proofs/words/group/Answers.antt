@@ -1,7 +1,5 @@
 -- `crc::words::group` meets its contract: four words of four bytes each, one behind the other. Assumes nothing.
 use mathlib.Core.Path.{refl}
-use Prim.Native.Nat.{◌+◌}
-use native.Mathlib.Omega.{arith}
 use Rattle.crc.specs.Inner.{remainder}
 use Rattle.crc.proofs.WordLaws.{adds_two, adds_four}
 use Rattle.crc.proofs.words.group.Goals as goal
