@@ -3,7 +3,7 @@ use Prim.Native.Nat.{◌+◌, ◌≤◌}
 use native.Mathlib.Omega.{arith}
 use borrow.Author.Tests.{not-true, not-false}
 use lib.ListN.{length}
-use Rattle.blocks.proofs.LoopLaws.{checking_start, checking_fits, checking_wrong, checking_step, checking_end}
+use Rattle.blocks.proofs.LoopLaws.{checking_fits, checking_wrong, checking_step, checking_end}
 use Rattle.blocks.proofs.Cut.first_wrong.Goals.{After-min-k}
 use Rattle.blocks.proofs.Cut.first_wrong.Goals as goal
 

@@ -1,5 +1,5 @@
 use native.Mathlib.Omega.{arith}
-use Rattle.blocks.proofs.LoopLaws.{seeking_start, seeking_fits, seeking_step, seeking_end}
+use Rattle.blocks.proofs.LoopLaws.{seeking_fits, seeking_step, seeking_end}
 use Rattle.blocks.proofs.Cut.locate.Goals as goal
 
 pub overflow_add-at : goal.overflow_add-at
