@@ -55,7 +55,8 @@ module _ (s : List ℕ) (q : ℕ) where
       rw (chips, gather-add (chip_at s) (8 * q) (8 * n) 8, place, word_at_byte s (q + n) h)
 
   module _ (byte : (k : ℕ) → Fits w8 (get_or s k 0)) where
-    pub word_at_four : from_be_bytes w32 (get_or s q 0 ∷ get_or s (q + 1) 0 ∷ get_or s (q + 2) 0 ∷ get_or s (q + 3) 0 ∷ [])
+    pub word_at_four :
+        from_be_bytes w32 (get_or s q 0 ∷ get_or s (q + 1) 0 ∷ get_or s (q + 2) 0 ∷ get_or s (q + 3) 0 ∷ [])
         ≡ word_at s (8 * q) 32
     word_at_four =
         let one = word_at_byte s q (omega (arith, byte q)) in
@@ -71,25 +72,10 @@ module _ (s : List ℕ) (q : ℕ) where
         → from_be_bytes w64 bs ≡ word_at s (8 * q) 64
     unfolding gather
     word_at_eight bs same =
-        omega (
-          arith,
-          grow 0,
-          grow 1,
-          grow 2,
-          grow 3,
-          grow 4,
-          grow 5,
-          grow 6,
-          grow 7,
-          same 0,
-          same 1,
-          same 2,
-          same 3,
-          same 4,
-          same 5,
-          same 6,
-          same 7,
-        )
+        let front : word_at s (8 * q) 32
+        ≡ ((get_or bs 0 0 * 256 + get_or bs 1 0) * 256 + get_or bs 2 0) * 256 + get_or bs 3 0
+        = omega (arith, grow 0, grow 1, grow 2, grow 3, same 0, same 1, same 2, same 3) in
+        omega (arith, front, grow 4, grow 5, grow 6, grow 7, same 4, same 5, same 6, same 7)
 
     -- byte i of those from q on, with zeros behind them
     get_or_rest : (i : ℕ) (zeros : List ℕ) → q ≤ length s → ((k : ℕ) → get_or zeros k 0 ≡ 0)
@@ -109,7 +95,8 @@ module _ (s : List ℕ) (q : ℕ) where
           ∙ (none (length rest + (i - length rest)) ∙ sym (get_or-eq_default s 0 {n = q + i} (omega arith))))
 
     pub word_at_rest : {ys : List ℕ} → q ≤ length s → ys ≡ take (length s - q) (drop q s)
-        → from_be_bytes w64 (ys ++ drop (length (take (length s - q) (drop q s))) (replicate 8 0)) ≡ word_at s (8 * q) 64
+        → from_be_bytes w64 (ys ++ drop (length (take (length s - q) (drop q s))) (replicate 8 0))
+        ≡ word_at s (8 * q) 64
     word_at_rest {ys} le e =
         let whole : take (length s - q) (drop q s) ≡ drop q s = rw length-drop at (take-length (drop q s)) in
         let zeros : List ℕ = replicate 8 0 in

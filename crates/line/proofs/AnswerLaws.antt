@@ -15,6 +15,7 @@ use mathlib.Core.Path.{◌≡◌, refl, ◌∙◌}
 use mathlib.Core.Bool.{Bool, true, false, cond}
 use mathlib.Core.List.{List, ◌++◌}
 use Prim.Native.Nat.{ℕ, ◌+◌, ◌<◌, ◌≤◌}
+use native.Mathlib.Nat.{le_antisymm}
 use native.Mathlib.Omega.{arith}
 use borrow.Author.Tests.{lt-ltb, le-ltb, ltb-false}
 use lib.Dec.{ltb}
@@ -56,9 +57,6 @@ unrefused true true c e k d m h = refuted h
 unrefused true false true e k d m h = refuted h
 unrefused true false false true k d m h = refuted h
 unrefused true false false false k d m h = ((refl, refl), (refl, refl))
-
-le_antisymm : {a b : ℕ} → a ≤ b → b ≤ a → a ≡ b
-le_antisymm le ge = omega arith
 
 module _ (κ : LineCode) (s : List ℕ) (start n : ℕ) (d : List ℕ) where
   pub decoded_out : in_range s start ≡ false → decoded κ s start n d ≡ leaving (Err OutOfRange) d

@@ -20,8 +20,8 @@ use borrow.Author.Tests.{eqb-true}
 use lib.Dec.{T, eqb, ltb, eqb→eq, ltb→lt}
 use lib.Ieee.Fits.{and_l, and_r}
 use lib.ListN.{get_or}
+use Rattle.std.proofs.lemmas.Option.{none-some}
 use Rattle.std.specs.Prelude.{Option, Some, None}
-use Rattle.ground.proofs.CaseLaws.{zero_not_one}
 use Rattle.ground.proofs.TableLaws.{all_below, all_below_at}
 use Rattle.line.specs.Codes.{LineCode, code_of, code_words, number_for, word_value, words_in, chips_in}
 use Rattle.line.specs.Inner.{unit_of}
@@ -38,7 +38,7 @@ number_for-suc f y n x false e found before = (omega (arith, (before found).0), 
 
 pub number_for_is : (f : ℕ → ℕ) (y n x : ℕ) → number_for f y n ≡ Some x → (x < n) × (f x ≡ y)
 unfolding number_for
-number_for_is f y zero x h = absurd (zero_not_one (cc))
+number_for_is f y zero x h = absurd (none-some x h)
 number_for_is f y (suc n) x h = number_for-suc f y n x (eqb (f n) y) refl h (number_for_is f y n x)
 
 pub record Lawful (κ : LineCode) : Type 0 where

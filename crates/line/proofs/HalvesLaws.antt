@@ -1,7 +1,7 @@
--- Three-of-six read a byte at a time: its two words are looked up in a table of 64 (specs/Inner).
---     row_of_listed             what is cut out of a row for a word is what is listed for it, by computing all 64; that
---                              the source's rows are these is a computation too (`line::codes::row`)
---     Halves-none, Halves-step    a table is filled from the front, entry after entry
+-- Three-of-six read a byte at a time: its two words are looked up in a table of 64 (`line::codes::half_of`).
+--     row_of_listed             Table 10 in rows of eight: what is cut out of a row for a word is what is listed for
+--                              it, by computing all 64
+--     Halves-none, Halves-step    a table of what is listed, filled from the front, entry after entry
 --     half_of_is, half_of_none   what a number listed says of its word
 --     listed_some, listed_none   and the other way round
 --     half_at_first, half_at_second    the two words of the byte, cut out of the 32 chips from its first byte on
@@ -94,7 +94,7 @@ half_at_second s at =
     ap (λ (n : ℕ). word_at s (8 * (at / 8)) 32 / 2 ^ n % 2 ^ 6) rest
     ∙ (word_at_window s (at / 8) 32 (at % 8 + 6) 6 (omega arith) ∙ ap (λ (n : ℕ). word_at s n 6) place)
 
--- x is the 32 chips from the byte of chip `at` on, and `high` and `low` are what is listed for the two words of the byte
+-- x is the 32 chips from the byte of chip `at` on, and `high` and `low` are what is listed for the byte's two words
 module _ (s : List ℕ) (at : ℕ) {x : ℕ} (half : x ≡ word_at s (8 * (at / 8)) 32) where
   module _ {high : ℕ} (first : high ≡ listed_for (x / 2 ^ (20 - at % 8) / 64 % 64)) where
     high_is : high ≡ half_of (value_at κ s at 0)

@@ -3,7 +3,6 @@
 --     Joining            u is the chips of a byte; the first k words are code words, and x is the number that they
 --                        make, one behind the other
 --     joining_start      before the first word
---     joining_le         a byte has at most 16 chips
 --     joining_lt         x is always a byte
 --     joining_inside     word k lies in the byte's chips
 --     joining_value      what word k stands for, cut out of the byte's chips
@@ -46,9 +45,6 @@ joining_start sizes u_eq =
     record { sizes = sizes; u_eq = u_eq; passed = omega arith; run = refl; joined = rw zero-mul }
 
 module _ {κ : LineCode} {s : List ℕ} {at b w m u x k : ℕ} (inv : Joining κ s at b w m u x k) where
-  pub joining_le : u ≤ 16
-  joining_le = omega (arith, inv.u_eq, inv.sizes.law.unit_le)
-
   pub joining_lt : x < 256
   joining_lt =
       let bound : k * κ.bits ≤ m * κ.bits = mul-le-mul_right κ.bits inv.passed in

@@ -4,11 +4,11 @@
 --     Held               the chips from 8 * j on that are at hand: `count` of them, up to the end of the i bytes taken
 --                        in, making `held`
 --     Pouring            fewer than sixteen are at hand, and the first j bytes are written
---     pouring_start, held_more, held-lt, held_byte, held_rest, pouring_next, pouring_step, pouring_end
+--     pouring_start, held_more, held-lt, held_byte, held_rest, pouring_step, pouring_end
 use mathlib.Core.Path.{◌≡◌, refl, ap, sym, ◌∙◌}
 use mathlib.Core.List.{List, [], ◌++◌}
 use Prim.Native.Nat.{ℕ, ◌+◌, ◌*◌, ◌-◌, ◌/◌, ◌%◌, ◌^◌, ◌<◌, ◌≤◌}
-use native.Mathlib.Nat.{zero-mul, mul-le-mul_left}
+use native.Mathlib.Nat.{zero-mul}
 use native.Mathlib.Omega.{arith}
 use lib.ListN.{length, drop, set}
 use lib.Pow.{pow_mono}
@@ -82,10 +82,6 @@ module _ {f : ℕ → ℕ} {unit held count i j : ℕ} (bit : (k : ℕ) → f k 
 
 module _ {f : ℕ → ℕ} {size unit held count i j : ℕ} {out was : List ℕ}
     (inv : Pouring f size unit held count i j out was) where
-  -- no more bytes are taken in than are written
-  pub pouring_next : count < 8 → i ≤ j
-  pouring_next h = omega (arith, inv.at_hand.place, mul-le-mul_left i inv.source.unit_ge)
-
   pub pouring_step : {h c n : ℕ} → Held f unit h c n j × ((8 ≤ c) × (c ≤ 23)) → j < size → size ≤ length was
       → Pouring f size unit (h % 2 ^ (c - 8)) (c - 8) n (j + 1) (set out j (h / 2 ^ (c - 8) % 2 ^ 8)) was
   pouring_step ready lt room =

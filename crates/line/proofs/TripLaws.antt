@@ -62,7 +62,8 @@ module _ {κ : LineCode} (law : Lawful κ) (s : List ℕ) (start : ℕ) where
         (λ k lt. let place : start + i * κ.chips + k ≡ start + (i * κ.chips + k) = omega arith in
         rw place (holds (i * κ.chips + k) (omega (arith, mul-add-le i (words_in κ (length b)) κ.chips h))))
 
-    pub value_at_holds : (i : ℕ) → i < words_in κ (length b) → value_at κ s start i ≡ Some (word_at b (i * κ.bits) κ.bits)
+    pub value_at_holds : (i : ℕ) → i < words_in κ (length b)
+        → value_at κ s start i ≡ Some (word_at b (i * κ.bits) κ.bits)
     value_at_holds i h =
         ap (word_value κ) (word_at_holds i h ∙ gather-encoded_chip law b i)
         ∙ law.back (word_at b (i * κ.bits) κ.bits) (gather-lt (chip_at b) (chip_at-lt b) (i * κ.bits) κ.bits)

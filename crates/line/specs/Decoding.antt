@@ -7,7 +7,7 @@
 --     decoding κ s start n       the n bytes that the words from chip `start` on stand for
 --     decoded κ s start n d      the answer, and what the lent memory holds then, d before
 -- A place after the last chip is no start (10); the chip count itself is one, at which only 0 bytes can be decoded.
-use Rattle.std.specs.Prelude.{Bool, true, false, cond, List, ◌++◌, ℕ, zero, suc, ◌+◌, ◌*◌, ltb, eqb, length, drop, Option, Some, None, Result, Ok, Err, ⊤}
+use Rattle.std.specs.Prelude.{Bool, cond, List, ◌++◌, ℕ, zero, suc, ◌+◌, ◌*◌, ltb, eqb, length, drop, Option, is_some, unwrap_or, Result, Ok, Err, ⊤}
 use Rattle.answers.specs.Outcome.{Outcome, leaving}
 use Rattle.answers.specs.declared.Refusal.{Refusal}
 use Rattle.answers.specs.declared.Refusal.TheVariants.{Short, NoRoom, BadWord, OutOfRange}
@@ -19,12 +19,10 @@ abbrev pub value_at : LineCode → List ℕ → ℕ → ℕ → Option ℕ
 value_at κ s start i = word_value κ (word_at s (start + i * κ.chips) κ.chips)
 
 abbrev pub is_word : Option ℕ → Bool
-is_word (Some x) = true
-is_word None = false
+is_word v = is_some v
 
 abbrev pub number_in : Option ℕ → ℕ
-number_in (Some x) = x
-number_in None = 0
+number_in v = unwrap_or v 0
 
 unfoldable pub good_run : (ℕ → Option ℕ) → ℕ → ℕ
 good_run f zero = 0

@@ -9,7 +9,7 @@
 --     NotWords κ s start n r    they are not all code words, and the refusal r has the place of the first that is none
 --     byte_read κ s at    the byte whose words begin at chip `at`, or the place of the first that is no code word
 --     sent_chip κ s k     chip k of what encoding writes: behind the code words of s every chip is 0
-use Rattle.std.specs.Prelude.{cond, ◌≡◌, List, ℕ, zero, suc, ◌+◌, ◌*◌, ◌/◌, ◌<◌, ltb, length, get_or, Option, Some, None, Result, Ok, Err}
+use Rattle.std.specs.Prelude.{cond, ◌≡◌, List, ℕ, zero, suc, ◌+◌, ◌*◌, ◌/◌, ◌<◌, ltb, length, get_or, Option, unwrap_or, Result, Ok, Err}
 use Rattle.answers.specs.declared.Refusal.{Refusal}
 use Rattle.answers.specs.declared.Refusal.TheVariants.{BadWord}
 use Rattle.chips.specs.Chips.{gather}
@@ -23,8 +23,7 @@ abbrev pub unit_of : LineCode → ℕ
 unit_of κ = 8 / κ.bits * κ.chips
 
 abbrev pub half_of : Option ℕ → ℕ
-half_of (Some x) = x
-half_of None = 16
+half_of v = unwrap_or v 16
 
 abbrev pub listed_for : ℕ → ℕ
 listed_for y = half_of (word_value (code_of ThreeOfSix) y)

@@ -12,17 +12,16 @@ use crate::{codes, digits};
 use answers::Refusal;
 
 // The byte whose words begin at chip `at`: its chips are fetched at once, and its words read one after the other,
-// whatever the code. Refused is the place of the first word that is no code word.
+// whatever the code. `Err` is the place of the first word that is no code word.
 fn words_at(code: Code, s: &[u8], at: usize) -> Result<u8, usize>
     ensures { result ≡ byte_read (code_of code) s.now at }
 {
     let b = code.bits();
     let w = code.width();
-    let m = code.per_byte();
     let unit = code.unit();
     let all = chips::word(s, at, unit);
     let mut x: usize = 0;
-    for k in 0..m {
+    for k in 0..code.per_byte() {
         let Some(v) = code.word_value(digits::part(all, w, unit - w - k * w)) else {
             return Err(k);
         };

@@ -32,18 +32,17 @@ fn coded_byte(code: Code, s: &[u8], i: usize) -> usize
     }
     let b = code.bits();
     let w = code.width();
-    let m = code.per_byte();
     let x = usize::from(s[i]);
     let mut all: usize = 0;
-    for k in 0..m {
+    for k in 0..code.per_byte() {
         let word = code.word_of(digits::part(x, b, 8 - b - k * b));
         all = digits::join(all, w, word);
     }
     all
 }
 
-// Fills `out` with the code words of `s`, eight chips at a time. `held` has `count` chips that are not written yet; where
-// fewer than eight are left, the chips of the next byte are taken in.
+// Fills `out` with the code words of `s`, eight chips at a time. `held` has `count` chips that are not written yet;
+// where fewer than eight are left, the chips of the next byte are taken in.
 fn pour(code: Code, s: &[u8], out: &mut [u8])
     requires { length out.old ≡ encoded_size (code_of code) (length s.now) }
     ensures { out.new ≡ encoding (code_of code) s.now }
@@ -64,8 +63,8 @@ fn pour(code: Code, s: &[u8], out: &mut [u8])
     }
 }
 
-// Writes the code words of `s` into `out`, from its first byte on; refusal 4. `s` may have any length: a slice has fewer
-// than 2 ^ 63 bytes, so that twice as many are a number.
+// Writes the code words of `s` into `out`, from its first byte on; refusal 4. `s` may have any length: a slice has
+// fewer than 2 ^ 63 bytes, so that the size never wraps.
 #[tactic(auto, unfolding(crate::specs::Encoding::encoded))]
 pub fn encode(code: Code, s: &[u8], out: &mut [u8]) -> Result<usize, Refusal>
     ensures { leaving result out.new ≡ encoded (code_of code) s.now out.old }

@@ -6,10 +6,6 @@ use Rattle.chips.proofs.WindowLaws.{word_at_lt}
 use Rattle.line.proofs.JoiningLaws.{byte_read_nrz}
 use Rattle.line.proofs.decoding.byte_at.Goals as goal
 
-pub narrow-requires : goal.narrow-requires
-narrow-requires c =
-    (omega arith, (c.requires.0, rw c.in-Nrz.is at c.requires.1))
-
 pub overflow_cast-result : goal.overflow_cast-result
 overflow_cast-result c =
     let a = c.args in
@@ -19,6 +15,3 @@ pub returns-in-Nrz : goal.returns-in-Nrz
 returns-in-Nrz c =
     let a = c.args in
     rw c.in-Nrz.is (ap Ok c.narrow.ensures ∙ sym (byte_read_nrz a.s.now a.at))
-
-pub returns-in-ThreeOfSix : goal.returns-in-ThreeOfSix
-returns-in-ThreeOfSix c = rw c.in-ThreeOfSix.is c.halves_at.ensures

@@ -33,25 +33,6 @@ bad c = filling_bad c.loop-i.invariant c.loop-i-test.true (sym c.byte_at.ensures
 pub loop-i-init : goal.loop-i-init
 loop-i-init c = filling_start (lawful c.args.code) c.per_byte-m.ensures c.unit-unit.ensures
 
-pub overflow_mul-i : goal.overflow_mul-i
-overflow_mul-i c = omega (arith, fits (goal.at.overflow_mul-i c).In-loop-i)
-
-pub overflow_add-start : goal.overflow_add-start
-overflow_add-start c = omega (arith, fits (goal.at.overflow_add-start c).In-loop-i)
-
-pub byte_at-requires : goal.byte_at-requires
-byte_at-requires c =
-    let there = fits (goal.at.byte_at-requires c).In-loop-i in
-    omega (arith, c.unit-unit.ensures)
-
-pub bounds-room-i : goal.bounds-room-i
-bounds-room-i c = omega (arith, kept (goal.at.bounds-room-i c).At-loop-i)
-
-pub overflow_mul-result : goal.overflow_mul-result
-overflow_mul-result c =
-    let a = c.args in
-    omega (arith, bad (goal.at.overflow_mul-result c).In-Err, words_in_le (code_of a.code) (length a.room.now))
-
 pub overflow_add-result : goal.overflow_add-result
 overflow_add-result c =
     let a = c.args in

@@ -5,4 +5,4 @@ use Rattle.line.specs.Codes.{code_of}
 use Rattle.line.proofs.decoding.words_at.Given as goal
 
 abbrev pub invariant-loop-k : goal.invariant-loop-k
-invariant-loop-k l = Joining (code_of l.code) l.s l.at l.b l.w l.m l.unit l.x l.k
+invariant-loop-k l = Joining (code_of l.code) l.s l.at l.b l.w l.k-end l.unit l.x l.k

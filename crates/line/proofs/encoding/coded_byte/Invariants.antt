@@ -5,4 +5,4 @@ use Rattle.line.specs.Codes.{code_of}
 use Rattle.line.proofs.encoding.coded_byte.Given as goal
 
 abbrev pub invariant-loop-k : goal.invariant-loop-k
-invariant-loop-k l = Coding (code_of l.code) l.s l.i l.b l.w l.m l.x l.all l.k
+invariant-loop-k l = Coding (code_of l.code) l.s l.i l.b l.w l.k-end l.x l.all l.k

@@ -4,7 +4,7 @@ use native.Mathlib.Omega.{arith}
 use Rattle.chips.specs.Packing.{packed}
 use Rattle.line.proofs.CodeLaws.{lawful, unit_of_ge}
 use Rattle.line.proofs.EncodingLaws.{sent_chip-lt}
-use Rattle.line.proofs.PouringLaws.{Held, pouring_start, held_more, held-lt, pouring_next, pouring_step, pouring_end}
+use Rattle.line.proofs.PouringLaws.{Held, pouring_start, held_more, held-lt, pouring_step, pouring_end}
 use Rattle.line.specs.Codes.{code_of}
 use Rattle.line.specs.Encoding.{encoding}
 use Rattle.line.specs.Inner.{sent_chip}
@@ -62,27 +62,6 @@ join-held-requires c =
       held-lt source.bit (more (goal.at.join-held-requires c).After-coded_byte)
           (omega (arith, source.unit_le, c.if-count-lt8.true)),
     )
-
-pub overflow_add-count : goal.overflow_add-count
-overflow_add-count c =
-    let inv = c.loop-byte.invariant in
-    omega (arith, inv.source.unit_le, inv.few)
-
-pub overflow_add-i : goal.overflow_add-i
-overflow_add-i c =
-    omega (arith, pouring_next c.loop-byte.invariant c.if-count-lt8.true)
-
-pub overflow_sub-count : goal.overflow_sub-count
-overflow_sub-count c = omega (arith, (ready (goal.at.overflow_sub-count c).Joined-count-lt8).1)
-
-pub part-requires : goal.part-requires
-part-requires c = omega (arith, (ready (goal.at.part-requires c).Joined-count-lt8).1)
-
-pub overflow_cast-byte : goal.overflow_cast-byte
-overflow_cast-byte c = omega (arith, c.part.ensures)
-
-pub low-held-requires : goal.low-held-requires
-low-held-requires c = omega (arith, (ready (goal.at.low-held-requires c).Joined-count-lt8).1)
 
 pub loop-byte-preserved : goal.loop-byte-preserved
 loop-byte-preserved c =

@@ -5,7 +5,6 @@ use Rattle.chips.proofs.RangeLaws.{InBuffer, in_range_true}
 use Rattle.chips.proofs.WindowLaws.{word_at_lt}
 use Rattle.chips.specs.Chips.{word_at}
 use Rattle.line.proofs.AnswerLaws.{word_read_out, word_read_short, word_read_fits}
-use Rattle.line.proofs.CodeLaws.{lawful}
 use Rattle.line.specs.Codes.{code_of, word_value}
 use Rattle.line.specs.OneWord.{word_for}
 use Rattle.line.proofs.words.word_at.Goals.{Else-not-in_range}
@@ -23,12 +22,6 @@ pub returns-then-s-at : goal.returns-then-s-at
 returns-then-s-at c =
     let inside = in_buffer (goal.at.returns-then-s-at c).Else-not-in_range in
     sym (word_read_short (code_of c.args.code) _ _ inside (omega (arith, inside, c.width-w.ensures)))
-
-pub narrow-requires : goal.narrow-requires
-narrow-requires c =
-    let law = lawful c.args.code in
-    let inside = in_buffer (goal.at.narrow-requires c).Else-not-in_range in
-    (omega (arith, c.width-w.ensures, law.bits_pos, law.bits-le, law.chips-le), omega (arith, inside))
 
 pub word_value-requires : goal.word_value-requires
 word_value-requires c =
