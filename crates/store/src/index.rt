@@ -37,7 +37,7 @@ fn slot_of(address: u64) -> usize
 
 impl<'a> Index<'a> {
     // No meter yet.
-    pub(crate) fn none(bytes: &'a [u8], first: usize) -> Index<'a>
+    fn none(bytes: &'a [u8], first: usize) -> Index<'a>
         requires { (first ≤ 8) × (first ≤ length bytes.now) }
         ensures { (result.bytes.now ≡ bytes.now) × ((result.first ≡ first) × (result.count ≡ 0)) }
     {
@@ -50,29 +50,20 @@ impl<'a> Index<'a> {
         }
     }
 
-    // The place of the meter `address`, if it is one of them. No meter stands twice, so the place where it is found is
-    // the only one. The walk goes from a meter to the one before it in its slot, so its step isn't 1.
-    pub(crate) fn find(&self, address: u64) -> Option<usize>
-        ensures { FoundAt result self.now.count
-            (place_of address (meters_in self.now.count (drop self.now.first self.now.bytes.now))) }
+    // The `count` meters of `bytes` from `first` on, if each of them is one and none stands twice.
+    pub(crate) fn of(bytes: &'a [u8], first: usize, count: usize) -> Option<Index<'a>>
+        requires { (first ≤ 8) × ((count ≤ 64) × (first + 20 * count ≤ length bytes.now)) }
+        ensures { MatchOption result
+            ((all_right count (drop first bytes.now) && unlike [] (meters_in count (drop first bytes.now))) ≡ false)
+            (λ m. (m.bytes.now ≡ bytes.now) × ((m.first ≡ first) × (m.count ≡ count))) }
     {
-        let mut next = self.slots[slot_of(address)] as usize;
-        while next != 0 {
-            let place = next - 1;
-            if address::key_at(self.bytes, self.first + METER * place + 1) == address {
-                return Some(place);
+        let mut index = Index::none(bytes, first);
+        for _ in 0..count {
+            if !index.take_next() {
+                return None;
             }
-            next = self.links[place] as usize;
         }
-        None
-    }
-
-    // The meter at a place.
-    pub(crate) fn at(&self, place: usize) -> Meter
-        requires { place < self.now.count }
-        ensures { result ≡ meter_in (drop (self.now.first + 20 * place) self.now.bytes.now) }
-    {
-        meters::meter_at(self.bytes, self.first + METER * place)
+        Some(index)
     }
 
     // Takes in the meter behind the last one; not if its bytes are none, or it stands there twice. Only meters in the
@@ -101,19 +92,28 @@ impl<'a> Index<'a> {
         true
     }
 
-    // The `count` meters of `bytes` from `first` on, if each of them is one and none stands twice.
-    pub(crate) fn of(bytes: &'a [u8], first: usize, count: usize) -> Option<Index<'a>>
-        requires { (first ≤ 8) × ((count ≤ 64) × (first + 20 * count ≤ length bytes.now)) }
-        ensures { MatchOption result
-            ((all_right count (drop first bytes.now) && unlike [] (meters_in count (drop first bytes.now))) ≡ false)
-            (λ m. (m.bytes.now ≡ bytes.now) × ((m.first ≡ first) × (m.count ≡ count))) }
+    // The place of the meter `address`, if it is one of them. No meter stands twice, so the place where it is found is
+    // the only one. The walk goes from a meter to the one before it in its slot, so its step isn't 1.
+    pub(crate) fn find(&self, address: u64) -> Option<usize>
+        ensures { FoundAt result self.now.count
+            (place_of address (meters_in self.now.count (drop self.now.first self.now.bytes.now))) }
     {
-        let mut index = Index::none(bytes, first);
-        for _ in 0..count {
-            if !index.take_next() {
-                return None;
+        let mut next = self.slots[slot_of(address)] as usize;
+        while next != 0 {
+            let place = next - 1;
+            if address::key_at(self.bytes, self.first + METER * place + 1) == address {
+                return Some(place);
             }
+            next = self.links[place] as usize;
         }
-        Some(index)
+        None
+    }
+
+    // The meter at a place.
+    pub(crate) fn at(&self, place: usize) -> Meter
+        requires { place < self.now.count }
+        ensures { result ≡ meter_in (drop (self.now.first + 20 * place) self.now.bytes.now) }
+    {
+        meters::meter_at(self.bytes, self.first + METER * place)
     }
 }

@@ -59,6 +59,7 @@ fn places_in(held: &Index, theirs: &Index) -> ([u8; LIMIT], usize)
     }
     (places, total)
 }
+
 // Brings a file's meters to their places in a memory with `count` meters. One that was held keeps its own mark and the
 // larger number, all else is the file's; another one comes as a stranger, unsure.
 fn merge_all(store: &mut [u8], count: usize, theirs: &Index, places: &[u8; LIMIT])

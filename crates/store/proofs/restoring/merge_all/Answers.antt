@@ -1,4 +1,3 @@
-use mathlib.Core.Path.{◌∙◌}
 use native.Mathlib.Numerals.{add-one}
 use native.Mathlib.Omega.{arith}
 use Rattle.store.proofs.MergingLaws.{merging_same}
@@ -32,8 +31,6 @@ put_meter-requires c =
 pub loop-i-preserved : goal.loop-i-preserved
 loop-i-preserved c =
     let i = c.loop-i.i in
-    rw (add-one i)
-    (c.put_meter.ensures
-    ∙ rw (c.max.ensures, c.at-m.ensures)
+    rw (add-one i, c.put_meter.ensures, c.max.ensures, c.at-m.ensures)
     (merge_known (knows (goal.at.loop-i-preserved c).Start) i c.loop-i-test.true c.loop-i.invariant
-    (c.requires.placed i c.loop-i-test.true) (rw c.at-m.ensures at c.known-own.ensures)))
+    (c.requires.placed i c.loop-i-test.true) (rw c.at-m.ensures at c.known-own.ensures))
