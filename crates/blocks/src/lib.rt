@@ -4,7 +4,6 @@
 #![tactic(auto)]
 
 ghost use Rattle.std.specs.Prelude.{◌≡◌, ◌∷◌, ◌++◌, ◌+◌, ◌/◌, ◌%◌, ◌≤◌, ◌<◌, ◌^◌, length, take, drop, set};
-ghost use Rattle.std.proofs.Math.Seq.{paste};
 ghost use Rattle.blocks.specs.Places.{place_in, check_in, check_at, mended};
 ghost use Rattle.blocks.specs.Spans.{sealed, framed, payload, block_ok, first_wrong, size_of, spans};
 
@@ -73,14 +72,6 @@ fn put_span(c: &[u8], from: usize, k: usize, out: &mut [u8], at: usize)
 {
     out[at..at + k].copy_from_slice(&c[from..from + k]);
     seal_at(out, at, k);
-}
-
-// k bytes of src from place `from`, copied to dst from place `at`.
-pub fn copy_part(src: &[u8], from: usize, k: usize, dst: &mut [u8], at: usize)
-    requires { (from + k ≤ length src.now) × (at + k ≤ length dst.old) }
-    ensures { dst.new ≡ paste dst.old at (drop from src.now) k }
-{
-    dst[at..at + k].copy_from_slice(&src[from..from + k]);
 }
 
 // Place `byte` becomes v, and the check at place `check` follows from the one that stood there: the bytes between the

@@ -11,20 +11,23 @@
 --     adds_word          a word of four bytes
 --     adds_start         the bytes from the start on
 --     adds_two, adds_four, adds_only   two words of four bytes; two more behind others; two that are all
---     group_behind       sixteen bytes behind a word: one turn of the loop over groups
+--     group_behind       sixteen bytes behind a word
+--     adds_all, adds_front, adds_taken    all bytes of a list, bytes in front of others, the first k
+--     lead_behind, group_append    what stands before the groups; one turn of the loop over them
 -- Assumes nothing.
 use mathlib.Core.Path.{◌≡◌, sym, ap, ap₂, ◌∙◌}
-use mathlib.Core.List.{List}
+use mathlib.Core.List.{List, [], ◌++◌}
 use Prim.Native.Nat.{ℕ, ◌+◌, ◌*◌, ◌-◌, ◌/◌, ◌%◌, ◌^◌, ◌<◌, ◌≤◌}
 use native.Mathlib.Nat.{zero-add, add-zero, add_assoc, mod-lt}
 use native.Mathlib.Omega.{arith}
 use lib.Bits.{bit_xor, xor_comm, xor_zero_r, xor_shifted}
-use lib.ListN.{length, drop, get_or}
+use lib.ListN.{length, take, drop, get_or, drop_of_length-le, take-append-drop}
+use lib.Seq.{drop_at, length-take-le}
 use lib.Pow.{shr_lt, split, pow_pos, pow-add}
 use Rattle.ground.proofs.XorLaws.{xor_assoc}
 use Rattle.crc.specs.Check.{bits_in, byte_in, reg_of}
 use Rattle.crc.specs.Inner.{remainder, Adds}
-use Rattle.crc.proofs.CheckLaws.{bits_in-xor, reg_of_drop}
+use Rattle.crc.proofs.CheckLaws.{bits_in-xor, reg_of_append, reg_of_drop}
 use Rattle.crc.proofs.RemainderLaws.{bits_in-zero, bits_in-add, rem_of-xor, remainder-shifted, remainder_small}
 
 -- ---- bytes and numbers
@@ -176,3 +179,37 @@ group_behind s at v g w group moved =
     ap (λ (x : ℕ). reg_of x (drop (at + 16) s))
     (rem_of-xor 64 g w ∙ xor_comm (remainder g) (remainder w) ∙ ap (λ (x : ℕ). bit_xor x (remainder g)) moved)
     ∙ sym (group (remainder v))
+
+-- ---- the same where the bytes are a list of their own
+
+-- the bytes of a list are all that there are
+pub adds_all : (s : List ℕ) (k z : ℕ) → length s ≡ k → Adds s 0 k z → z ≡ reg_of 0 s
+unfolding reg_of
+adds_all s k z size adds =
+    let end : drop k s ≡ [] = drop_of_length-le s {i = k} (omega arith) in
+    rw end at (adds_start s k z adds)
+
+-- bytes in front of others
+pub adds_front : (x t : List ℕ) (k z : ℕ) → length x ≡ k → Adds x 0 k z → Adds (x ++ t) 0 k z
+unfolding reg_of
+adds_front x t k z size adds r =
+    let none : 0 + k ≡ k = omega arith in
+    let end : drop k x ≡ [] = drop_of_length-le x {i = k} (omega arith) in
+    rw (none, drop_at x t k size)
+    (reg_of_append r x t ∙ ap (λ (y : ℕ). reg_of y t) (rw (none, end) at (adds r)))
+
+-- the first k bytes
+pub adds_taken :
+    (s : List ℕ) (k z : ℕ) → k ≤ length s → Adds (take k s) 0 (length (take k s)) z → Adds s 0 k z
+adds_taken s k z fits adds =
+    let size : length (take k s) ≡ k = length-take-le k s fits in
+    rw (take-append-drop k s) at (adds_front (take k s) (drop k s) k z size (rw size at adds))
+
+pub lead_behind : (x t : List ℕ) (k z : ℕ) → length x ≡ k → Adds x 0 k z → reg_of z t ≡ reg_of 0 (x ++ t)
+lead_behind x t k z size adds =
+    ap (λ (y : ℕ). reg_of y t) (adds_all x k z size adds) ∙ sym (reg_of_append 0 x t)
+
+pub group_append : (x t : List ℕ) (v g w : ℕ) → length x ≡ 16 → Adds x 0 16 (remainder g)
+    → remainder w ≡ bits_in 128 (remainder v) → reg_of (remainder (bit_xor g w)) t ≡ reg_of (remainder v) (x ++ t)
+group_append x t v g w size group moved =
+    rw (drop_at x t 16 size) at (group_behind (x ++ t) 0 v g w (adds_front x t 16 (remainder g) size group) moved)

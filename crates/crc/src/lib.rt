@@ -22,13 +22,12 @@ fn register(s: &[u8]) -> u16
     ensures { result ≡ reg_of 0 s.now }
 {
     if s.len() == 16 {
-        return left_by(group(s, 0));
+        return left_by(group(s));
     }
-    let mut i = s.len() % 16;
-    let mut v = lead(s, i);
-    while i < s.len() {
-        v = group(s, i) ^ onward(v);
-        i += 16;
+    let (head, groups) = s.split_at(s.len() % 16);
+    let mut v = lead(head);
+    for g in groups.chunks_exact(16) {
+        v = group(g) ^ onward(v);
     }
     left_by(v)
 }

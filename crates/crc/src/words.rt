@@ -7,14 +7,14 @@ ghost use Rattle.std.specs.Int.Bits.{bit_xor};
 ghost use Rattle.crc.specs.Check.{bits_in};
 ghost use Rattle.crc.specs.Inner.{remainder, nested, Adds, folded};
 
-// The first k bytes as one number, the first one highest.
-fn number(s: &[u8], k: usize) -> u64
-    requires { (k < 8) × (k ≤ length s.now) }
-    ensures { Adds s.now 0 k (bits_in 16 (remainder result)) × (result < 2 ^ (8 * k)) }
+// Fewer bytes than eight as one number, the first one highest.
+fn number(s: &[u8]) -> u64
+    requires { length s.now < 8 }
+    ensures { Adds s.now 0 (length s.now) (bits_in 16 (remainder result)) × (result < 2 ^ (8 * length s.now)) }
 {
     let mut w: u64 = 0;
-    for i in 0..k {
-        w = w * 256 + u64::from(s[i]);
+    for b in s {
+        w = w * 256 + u64::from(*b);
     }
     w
 }
@@ -66,30 +66,30 @@ pub(crate) fn onward(v: u64) -> u64
     (v >> 23) ^ low
 }
 
-// Sixteen bytes from place `at` on, as one word.
-pub(crate) fn group(s: &[u8], at: usize) -> u64
-    requires { at + 16 ≤ length s.now }
-    ensures adds { Adds s.now at 16 (remainder result) }
+// Sixteen bytes as one word.
+pub(crate) fn group(s: &[u8]) -> u64
+    requires { length s.now ≡ 16 }
+    ensures adds { Adds s.now 0 16 (remainder result) }
     ensures upper_bound { result < folded }
 {
-    let p = word(s, at);
-    let q = word(s, at + 4);
-    let r = word(s, at + 8);
-    let t = word(s, at + 12);
+    let p = word(s, 0);
+    let q = word(s, 4);
+    let r = word(s, 8);
+    let t = word(s, 12);
     four(p, q, r, t)
 }
 
-// Fewer bytes than sixteen from the start on, as one word: zeros in front of them change nothing.
-pub(crate) fn lead(s: &[u8], k: usize) -> u64
-    requires { (k < 16) × (k ≤ length s.now) }
-    ensures adds { Adds s.now 0 k (remainder result) }
+// Fewer bytes than sixteen as one word: zeros in front of them change nothing.
+pub(crate) fn lead(s: &[u8]) -> u64
+    requires { length s.now < 16 }
+    ensures adds { Adds s.now 0 (length s.now) (remainder result) }
     ensures upper_bound { result < folded }
 {
-    let rest = k % 8;
-    let w = number(s, rest);
+    let rest = s.len() % 8;
+    let w = number(&s[..rest]);
     let high = w >> 32;
     let low = w % 0x1_0000_0000;
-    if k < 8 {
+    if s.len() < 8 {
         return four(0, 0, high, low);
     }
     let r = word(s, rest);

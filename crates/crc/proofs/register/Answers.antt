@@ -1,47 +1,54 @@
-use mathlib.Core.Path.{◌≡◌, ◌∙◌}
-use mathlib.Core.List.{[]}
+use mathlib.Core.Path.{◌≡◌, refl, ap, ◌∙◌}
+use mathlib.Core.List.{[], ◌++◌}
 use Prim.Native.Nat.{◌%◌}
 use native.Mathlib.Omega.{arith}
 use lib.Bits.{xor_lt}
-use lib.ListN.{length, drop, drop_of_length-le}
+use lib.ListN.{length, length-append, drop_of_length-le, take-append-drop}
 use Rattle.crc.specs.Check.{reg_of}
 use Rattle.crc.specs.Inner.{remainder}
-use Rattle.crc.proofs.WordLaws.{adds_start, group_behind}
+use Rattle.crc.proofs.WordLaws.{adds_all, lead_behind, group_append}
 use Rattle.crc.proofs.register.Goals as goal
 
 pub returns-then-s-eq16 : goal.returns-then-s-eq16
-unfolding reg_of
 returns-then-s-eq16 c =
-    let s = c.args.s.now in
-    let end : drop 16 s ≡ [] = drop_of_length-le s {i = 16} (omega arith) in
-    c.left_by.ensures ∙ rw end at (adds_start s 16 (remainder c.group.result) c.group.ensures.adds)
+    c.left_by.ensures ∙ adds_all c.args.s.now 16 (remainder c.group.result) c.if-s-eq16.true c.group.ensures.adds
 
-pub loop-i-init : goal.loop-i-init
-loop-i-init c =
+pub loop-g-init : goal.loop-g-init
+loop-g-init c =
     let s = c.args.s.now in
-    let start = adds_start s (length s % 16) (remainder c.lead-v.result) c.lead-v.ensures.adds in
-    (omega arith, (omega arith, (c.lead-v.ensures.upper_bound, start)))
+    let cut = c.split_at.ensures in
+    let head = c.split_at.result.0.now in
+    let groups = c.split_at.result.1.now in
+    let joined : head ++ groups ≡ s = rw (cut.front, cut.back) (take-append-drop (length s % 16) s) in
+    rw (c.into_iter-g-iterator.ensures.into_iter_gives, c.chunks_exact-g-items.ensures.rest) (record {
+      size = c.chunks_exact-g-items.ensures.size;
+      whole = omega (arith, cut.back_len);
+      upper_bound = c.lead-v.ensures.upper_bound;
+      same = lead_behind head groups (length head) (remainder c.lead-v.result) refl c.lead-v.ensures.adds
+          ∙ ap (reg_of 0) joined;
+    })
 
-pub loop-i-preserved : goal.loop-i-preserved
-loop-i-preserved c =
-    let at = c.loop-i in
-    let s = c.args.s.now in
-    let g = c.group-in-loop-i in (
-      omega arith,
-      (
-        omega arith,
-        (
-          xor_lt 54 g.result c.onward.result g.ensures.upper_bound c.onward.ensures.upper_bound,
-          group_behind s at.i at.v g.result c.onward.result g.ensures.adds c.onward.ensures.result_value
-              ∙ at.invariant.1.1.1,
-        ),
-      ),
-    )
+pub loop-g-preserved : goal.loop-g-preserved
+loop-g-preserved c =
+    let w = c.loop-g.invariant in
+    let g = c.group-in-loop-g in
+    let x = c.in-Some.g.now in
+    let t = c.next.new.self.rest.now in
+    let e = c.in-Some.ensures.steps in
+    let long : length x ≡ 16 = e.1.1 ∙ w.size in
+    record {
+      size = e.0 ∙ w.size;
+      whole = omega (arith, w.whole, long, simp length-append at (ap length e.1.0));
+      upper_bound = xor_lt 54 g.result c.onward.result g.ensures.upper_bound c.onward.ensures.upper_bound;
+      same = group_append x t c.loop-g.v g.result c.onward.result long g.ensures.adds c.onward.ensures.result_value
+          ∙ rw e.1.0 at w.same;
+    }
 
 pub returns : goal.returns
 unfolding reg_of
 returns c =
-    let at = c.loop-i in
-    let s = c.args.s.now in
-    let end : drop at.i s ≡ [] = drop_of_length-le s {i = at.i} (omega arith) in
-    c.left_by-2.ensures ∙ rw end at at.invariant.1.1.1
+    let w = c.loop-g.invariant in
+    let rest = c.loop-g.g-iterator.rest.now in
+    let few : length rest ≡ 0 = omega (arith, w.size, w.whole, c.in-None.ensures.steps.1.0) in
+    let none : rest ≡ [] = drop_of_length-le rest {i = 0} (omega arith) in
+    c.left_by-2.ensures ∙ rw none at w.same

@@ -13,19 +13,9 @@ loop-k-init c =
     let none : a.x / 256 ≡ 0 = omega arith in
     sym (ap (λ (y : ℕ). share_of y a.distance) none ∙ share_of_zero a.distance)
 
-pub overflow_mul-sum : goal.overflow_mul-sum
-overflow_mul-sum c = record { fits = bit-mul-lt _ _ (search rules) (search rules) }
-
 pub loop-k-preserved : goal.loop-k-preserved
 loop-k-preserved c =
     let at = c.loop-k in
     let a = c.args in
     rw (c.bit_in.ensures, at.invariant, c.from.ensures, c.share_of_one-one.ensures)
     (share_of_next a.x at.k a.distance (omega arith) (omega arith))
-
-pub returns : goal.returns
-returns c =
-    let at = c.loop-k in
-    let a = c.args in
-    let all : a.x / 2 ^ at.k ≡ a.x = ap (λ (j : ℕ). a.x / 2 ^ j) {y = 0} (omega arith) ∙ div-one a.x in
-    at.invariant ∙ ap (λ (y : ℕ). share_of y a.distance) all
