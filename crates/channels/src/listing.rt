@@ -12,7 +12,7 @@ pub enum Band {
     D,
 }
 
-// The indices of a band.
+// The indices of a band: the first, and how many. No range, since `band_rows` of demands/specs/Demands says both.
 #[derive(Clone, Copy, Debug, PartialEq, Eq)]
 pub struct Rows {
     pub first: usize,

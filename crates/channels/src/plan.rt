@@ -6,7 +6,7 @@ ghost use Rattle.channels.specs.Plan.{float, row_of, entry_as_floats, centre_of}
 use crate::table21::TABLE;
 
 // A row of Table 21, in kilohertz: the first centre, the channel spacing, the frequency tolerance.
-#[derive(Clone, Copy)]
+#[derive(Clone, Copy, Debug, PartialEq)]
 pub struct Row {
     pub centre: f64,
     pub spacing: f64,
@@ -57,7 +57,7 @@ pub(crate) fn hertz_in(index: usize, channel: usize) -> u64
     (centre_in(index, channel) * 1000.0) as u64
 }
 
-// The centre of a channel, in kilohertz, if there is such a channel.
+// The centre of a channel, in kilohertz and exact to a quarter of one, or that there is no such channel.
 pub fn centre_of(index: usize, channel: usize) -> Option<f64>
     ensures { result ≡ centre_of index channel }
 {

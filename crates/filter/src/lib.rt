@@ -2,7 +2,7 @@
 
 #![tactic(auto)]
 
-ghost use Rattle.std.specs.Prelude.{◌≡◌, ◌<◌, length};
+ghost use Rattle.std.specs.Prelude.{◌≡◌};
 ghost use Rattle.std.specs.Str.{bytes_eq};
 ghost use Rattle.std.specs.List.{list_any};
 ghost use Rattle.address.specs.Names.{name_of};
@@ -10,6 +10,7 @@ ghost use Rattle.filter.specs.Listed.{verdict_of};
 
 use answers::Refusal;
 
+// Whether the name is one of the entries. All eight bytes are compared as received (document 02, 2/14).
 fn is_listed(name: &[u8], entries: &[[u8; 8]]) -> bool
     ensures { result ≡ list_any (λ e. bytes_eq e name.now) entries.now }
 {
