@@ -5,14 +5,9 @@
 --     next_column      one column more is clear, with nothing there
 --     cleared          or by a kept polynomial
 -- Assumes nothing.
-use mathlib.Core.List.{List, [], ◌∷◌}
-use mathlib.Core.Path.{◌≡◌, refl, sym, ap, ap₂, subst, ◌∙◌}
-use Prim.Native.Nat.{ℕ, zero, suc, ◌-◌, ◌+◌, ◌≤◌, ◌<◌}
-use native.Mathlib.Omega.{arith}
-use borrow.Author.Count.{below_more}
-use lib.Bits.{bit_xor, xor_self, xor_zero_r}
-use lib.ListN.{length, get_or, take, drop, length-drop}
-use lib.Seq.{take_all}
+use Rattle.std.proofs.Common.{List, [], ◌∷◌, ◌≡◌, refl, sym, ap, ap₂, subst, ◌∙◌, ℕ, zero, suc, ◌-◌, ◌+◌, ◌≤◌, ◌<◌}
+use Rattle.std.proofs.Common.{arith, below_more, bit_xor, length, get_or, take, drop, length-drop, take_all}
+use lib.Bits.{xor_self, xor_zero_r}
 use Rattle.ground.specs.Bytes.{Bytes}
 use Rattle.ground.specs.Sums.{xors}
 use Rattle.ground.proofs.SumLaws.{length-xors, bytes-xors, get_or-xors}

@@ -6,15 +6,13 @@
 --     search_on        how it goes on, with one more kept
 --     found            how it ends
 -- Assumes nothing.
-use Rattle.std.specs.Prelude.{Option, None, Some}
-use mathlib.Core.List.{List, [], ◌∷◌, ◌++◌}
-use mathlib.Core.Path.{◌≡◌, refl, sym, ap, subst, ◌∙◌}
-use Prim.Native.Nat.{ℕ, zero, suc, ◌-◌, ◌+◌, ◌≤◌, ◌<◌}
-use native.Mathlib.Omega.{arith}
-use borrow.Author.Tests.{eqb-true, eqb-false}
-use lib.Dec.{eqb}
-use lib.ListN.{length, get_or, drop, set, replicate, length-set, get_or-replicate, length-append, length-drop, get_or-eq_default}
-use lib.Seq.{get_or-set_same, get_or-set_other, get_or-drop}
+use Rattle.std.proofs.Common.{count_by, cond, is_some, Option, None, Some, List, [], ◌∷◌, ◌++◌, ◌≡◌, refl, sym, ap}
+use Rattle.std.proofs.Common.{subst, ◌∙◌, ℕ, zero, suc, ◌-◌, ◌+◌, ◌≤◌, ◌<◌, arith, eqb-true, eqb, length, get_or, drop}
+use Rattle.std.proofs.Common.{set, replicate, length-set, length-append, length-drop, get_or-set_same, get_or-set_other}
+use Rattle.std.proofs.Common.{get_or-drop}
+use borrow.Author.Tests.{eqb-false}
+use lib.ListN.{get_or-replicate, get_or-eq_default}
+use Rattle.std.proofs.lemmas.List.Sums.{count_by-le-length, sum_by-cons}
 use Rattle.ground.specs.Bytes.{Bytes}
 use Rattle.ground.proofs.ByteLaws.{bytes-nil, bytes-cons, bytes-append, bytes_drop, bytes-set}
 use Rattle.ground.proofs.CaseLaws.{by_test}
@@ -27,30 +25,19 @@ use Rattle.locating.specs.declared.reducing.Kept.{Kept}
 
 -- ---- how many are kept
 
-pub taken : List (Option Kept) → ℕ
-taken [] = 0
-taken (None ∷ kept) = taken kept
-taken (Some k ∷ kept) = suc (taken kept)
+abbrev pub taken : List (Option Kept) → ℕ
+taken kept = count_by is_some kept
 
-taken-le : (kept : List (Option Kept)) → taken kept ≤ length kept
-unfolding taken
-taken-le [] = omega arith
-taken-le (None ∷ kept) = omega (arith, taken-le kept)
-taken-le (Some k ∷ kept) = omega (arith, taken-le kept)
+taken-cons : (o : Option Kept) (kept : List (Option Kept)) → taken (o ∷ kept) ≡ cond (is_some o) 1 0 + taken kept
+taken-cons o kept = sum_by-cons (λ (k : Option Kept). cond (is_some k) 1 0) o kept
 
 taken-set : (kept : List (Option Kept)) (i : ℕ) (k : Kept) → i < length kept → get_or kept i None ≡ None
     → taken (set kept i (Some k)) ≡ suc (taken kept)
-unfolding taken
 taken-set [] i k h free = absurd (omega arith)
-taken-set (None ∷ kept) zero k h free = refl
+taken-set (None ∷ kept) zero k h free = omega (arith, taken-cons (Some k) kept, taken-cons None kept)
 taken-set (Some o ∷ kept) zero k h free = cc
-taken-set (None ∷ kept) (suc i) k h free = taken-set kept i k (omega arith) free
-taken-set (Some o ∷ kept) (suc i) k h free = ap suc (taken-set kept i k (omega arith) free)
-
-taken-replicate : (n : ℕ) → taken (replicate n None) ≡ 0
-unfolding taken
-taken-replicate zero = refl
-taken-replicate (suc n) = taken-replicate n
+taken-set (o ∷ kept) (suc i) k h free =
+    omega (arith, taken-cons o (set kept i (Some k)), taken-cons o kept, taken-set kept i k (omega arith) free)
 
 -- ---- times x
 
@@ -160,7 +147,7 @@ module _ {s v : List ℕ} {kept : List (Option Kept)} {low i x : ℕ} (slots : S
 
   pub more_left : 0 < low
   more_left =
-      omega (arith, heavier, taken-le (set kept i (Some more)), length-set kept i (Some more), slots.count, count)
+      omega (arith, heavier, count_by-le-length is_some (set kept i (Some more)), length-set kept i (Some more), slots.count, count)
 
   next-reducing : {u : List ℕ} {k n : ℕ} → u ≡ raised v → k ≡ i - 1 → n ≡ low - 1 → Reducing s n u k
   next-reducing {u} {k} {n} eu ek en =
@@ -178,8 +165,14 @@ module _ {s v : List ℕ} {kept : List (Option Kept)} {low i x : ℕ} (slots : S
         reducing = next-reducing eu ek en;
       }
 
-pub found : {s v : List ℕ} {d : ℕ} → d ≤ 16 → Reducing s (16 - d) v 16 → Locates s v d
-found small r = record { degree = small; poly = r.poly; all = r.before }
+module _ {s v : List ℕ} {low i : ℕ} (at : Reducing s low v i) where
+  poly_by_degree : Poly (16 - (16 - low)) v
+  poly_by_degree =
+      let e : low ≡ 16 - (16 - low) = omega (arith, at.poly.within) in
+      subst (λ (k : ℕ). Poly k v) e at.poly
+
+  pub found : 16 ≤ i → Locates s v (16 - low)
+  found all = record { degree = omega arith; poly = poly_by_degree; all = λ k h. at.before k (omega arith) }
 
 -- ---- how it begins
 
@@ -207,7 +200,7 @@ pub search_start : (s : List ℕ) → Searching s (replicate 16 None) 16 one 0
 search_start s =
     record {
       slots = record { count = refl; slot = λ i h k is. absurd (none_kept i k h is) };
-      count = omega (arith, taken-replicate 16);
+      count = refl;
       within = omega arith;
       reducing = record { poly = one_poly; before = λ k h. absurd (omega arith) };
     }

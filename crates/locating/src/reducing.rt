@@ -45,7 +45,7 @@ fn clear(tables: &Tables, v: &mut [u8; 17], kept: &Kept, sum: u8)
 fn step(
     tables: &Tables,
     s: &[u8; 32],
-    kept: &[Option<Kept>; 16],
+    kept: &[Option<Kept>; COLUMNS],
     v: &mut Locator,
     column: usize,
 ) -> Option<u8>
@@ -71,7 +71,7 @@ fn step(
 pub(crate) fn reduce(
     tables: &Tables,
     s: &[u8; 32],
-    kept: &[Option<Kept>; 16],
+    kept: &[Option<Kept>; COLUMNS],
     v: &mut Locator,
     from: usize,
 ) -> Option<Reached>

@@ -12,7 +12,8 @@ pub struct Tables {
 }
 
 impl Tables {
-    // Both, for a caller to lend: a constant that is read in place is copied at each use.
+    // Both, for a caller to lend: a constant that is read in place is copied at each use, and a static holds no struct
+    // with a ghost field.
     pub fn new() -> Tables
         ensures { TablesOk result.powers result.logs }
     {

@@ -20,10 +20,9 @@ impl Tables {
         requires { i + length v.now ≤ 32 }
         ensures { result ≡ combined s.now v.now i }
     {
-        let mut sum = 0;
-        for (k, c) in v.iter().enumerate() {
-            sum ^= self.times(*c, s[i + (v.len() - 1 - k)]);
-        }
-        sum
+        v.iter()
+            .rev()
+            .zip(&s[i..])
+            .fold(0, |sum, (c, x)| sum ^ self.times(*c, *x))
     }
 }

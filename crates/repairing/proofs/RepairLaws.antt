@@ -3,15 +3,11 @@
 --     zeros_told    whether all values are 0, by comparing them with zeros
 --     repaired      what it leaves is the code word near, if its values are all 0; else none is near
 -- Assumes nothing.
-use mathlib.Core.Bool.{Bool, true, false, cond, false≢true}
-use mathlib.Core.List.{List}
-use mathlib.Core.Logic.{◌⊎◌, inl, inr, ⊎_elim}
-use mathlib.Core.Path.{◌≡◌, refl, sym, ap, ap₂, subst, ◌∙◌}
-use Prim.Native.Nat.{ℕ, suc, ◌+◌, ◌-◌, ◌≤◌, ◌<◌}
-use native.Mathlib.Omega.{arith}
-use lib.Dec.{eqb}
-use lib.ListN.{length, get_or, take, drop, replicate, length-drop, get_or-replicate}
-use lib.Seq.{take_all, get_or-drop, ext_get_or}
+use Rattle.std.proofs.Common.{Bool, true, false, cond, List, ◌⊎◌, inl, inr, ⊎_elim, ◌≡◌, refl, sym, ap, ap₂, subst, ◌∙◌}
+use Rattle.std.proofs.Common.{ℕ, suc, ◌+◌, ◌-◌, ◌≤◌, ◌<◌, arith, eqb, length, get_or, take, drop, replicate}
+use Rattle.std.proofs.Common.{length-drop, take_all, get_or-drop, ext_get_or}
+use mathlib.Core.Bool.{false≢true}
+use lib.ListN.{get_or-replicate}
 use Rattle.std.specs.Cmp.Lexicographic.{pointwise}
 use Rattle.std.proofs.lemmas.Bool.Decides.{Decides-eqb}
 use Rattle.std.proofs.lemmas.Slice.Eq.{slice_eq-Decides}

@@ -4,13 +4,8 @@
 --     again      it is, and so is its quotient
 --     moved_on   it is, and its quotient is not
 -- Assumes nothing.
-use mathlib.Core.List.{List, ◌++◌}
-use mathlib.Core.Path.{◌≡◌, refl, sym, ap, ap₂, subst, ◌∙◌}
-use Prim.Native.Nat.{ℕ, ◌+◌, ◌-◌, ◌*◌, ◌%◌, ◌<◌}
-use native.Mathlib.Omega.{arith}
-use lib.ListN.{length, take, drop, length-append, length-drop}
-use native.Mathlib.Numerals.{add-one}
-use lib.Seq.{take_at, length-take-le}
+use Rattle.std.proofs.Common.{List, ◌++◌, ◌≡◌, refl, sym, ap, ap₂, subst, ◌∙◌, ℕ, ◌+◌, ◌-◌, ◌*◌, ◌%◌, ◌<◌, arith}
+use Rattle.std.proofs.Common.{length, take, drop, length-append, length-drop, add-one, take_at, length-take-le}
 use Rattle.field.specs.Field.{alpha_to}
 use Rattle.field.specs.Polynomials.{value_at}
 use Rattle.field.proofs.PowerLaws.{alpha_to-mod}

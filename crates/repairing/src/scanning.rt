@@ -9,7 +9,8 @@ use crate::dividing::divide;
 use crate::values::{FIRST, correct};
 use products::Tables;
 
-// The degree that the locator has now, and the next place: how many bytes stand behind it.
+// The degree that the locator has now, and the next place: how many bytes stand behind it. A slice that is cut to the
+// degree would be no plainer: `visit` would hand it back beside the place, and `scan` would lend it anew in each turn.
 #[derive(Clone, Copy, Debug, PartialEq, Eq)]
 pub(crate) struct Next {
     pub(crate) degree: usize,
@@ -65,7 +66,7 @@ pub(crate) fn scan(tables: &Tables, w: &mut [u8], s: &mut [u8; 32], v: &mut [u8]
         degree: v.len() - 1,
         place: 0,
     };
-    // not each turn goes on by one place
+    // a `while`, since a turn goes on by one place or makes the degree less
     while at.place < last && 0 < at.degree {
         at = visit(tables, w, s, v, at);
     }

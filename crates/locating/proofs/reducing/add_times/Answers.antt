@@ -1,10 +1,7 @@
 use Rattle.std.proofs.Common.{◌∙◌, arith, sym}
-use Rattle.ground.proofs.InPlaceLaws.{in_place_start, in_place_next, in_place_end}
+use Rattle.ground.proofs.InPlaceLaws.{in_place_next, in_place_end}
 use Rattle.locating.proofs.ReduceLaws.{length_added, added_at}
 use Rattle.locating.proofs.reducing.add_times.Goals as goal
-
-pub loop-k-init : goal.loop-k-init
-loop-k-init c = in_place_start _ _
 
 pub loop-k-preserved : goal.loop-k-preserved
 loop-k-preserved c =

@@ -2,11 +2,8 @@ use Rattle.std.proofs.Common.{arith, get_or, refl}
 use lib.Bits.{xor_lt}
 use Rattle.field.proofs.FieldLaws.{mul-lt}
 use Rattle.field.specs.Field.{alpha_to}
-use Rattle.repairing.proofs.DivideLaws.{dividing_start, dividing_next, dividing_end}
+use Rattle.repairing.proofs.DivideLaws.{dividing_next, dividing_end}
 use Rattle.repairing.proofs.dividing.divide.Goals as goal
-
-pub loop-x-init : goal.loop-x-init
-loop-x-init c = dividing_start _ _
 
 pub loop-x-preserved : goal.loop-x-preserved
 loop-x-preserved c =

@@ -1,5 +1,4 @@
-use Rattle.std.proofs.Common.{◌∙◌, ap₂, arith}
-use lib.Bits.{bit_xor}
+use Rattle.std.proofs.Common.{◌∙◌, ap₂, arith, bit_xor}
 use Rattle.ground.proofs.InPlaceLaws.{in_place_start, in_place_next}
 use Rattle.repairing.proofs.ValueLaws.{first_term, next_term}
 use Rattle.repairing.proofs.values.follow.Goals as goal

@@ -1,6 +1,5 @@
 -- `repairing::values::follow` meets its contract. Assumes nothing.
-use Rattle.std.proofs.Common.{◌≡◌, get_or}
-use lib.Bits.{bit_xor}
+use Rattle.std.proofs.Common.{◌≡◌, get_or, bit_xor}
 use Rattle.ground.proofs.InPlaceLaws.{InPlace}
 use Rattle.repairing.specs.Inner.{term}
 use Rattle.repairing.proofs.values.follow.Given as goal

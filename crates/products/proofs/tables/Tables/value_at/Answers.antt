@@ -1,8 +1,8 @@
 -- `products::tables::Tables::value_at` meets its contract: after each byte, what was folded is the value of the bytes so
 -- far. Assumes nothing.
-use Rattle.std.proofs.Common.{◌≡◌, ◌++◌, ◌∷◌, [], ℕ, List, ap, ◌∙◌, sym, refl, rules, subst}
-use Rattle.std.proofs.lemmas.Fn.{fold_over, slice_gives, fronts}
-use lib.Bits.{bit_xor}
+use Rattle.std.proofs.Common.{◌≡◌, ◌++◌, ◌∷◌, [], ℕ, List, ap, ◌∙◌, sym, refl, rules, bit_xor}
+use Rattle.std.proofs.lemmas.Fn.{fold_over, fronts}
+use Rattle.std.proofs.lemmas.Iterator.{YieldsList-from_slice}
 use Rattle.field.specs.Field.{alpha_to, mul}
 use Rattle.field.specs.Polynomials.{eval_from, value_at}
 use Rattle.field.proofs.PolynomialLaws.{eval_append}
@@ -16,7 +16,6 @@ pub returns : goal.returns
 unfolding eval_from
 returns c =
     let r = alpha_to c.args.k in
-    subst (λ (w : List ℕ). c.fold.result ≡ value_at r w) c.iter.ensures.rest
-    (fold_over fronts (λ y. y.now) _ (λ ys a. a ≡ value_at r ys) _
-    (λ ys a x b f' j h. (next r ys a x.now b j (search rules), search rules)) _ _ 0 c.fold.result
-    (slice_gives c.iter.result) refl c.fold.ensures.ran)
+    fold_over fronts (λ y. y.now) _ (λ ys a. a ≡ value_at r ys) _
+    (λ ys a x b f' j h. (next r ys a x.now b j (search rules), search rules)) _ c.args.w.now 0 c.fold.result
+    (YieldsList-from_slice {s = c.iter.result} c.args.w.now (cc)).runs refl c.fold.ensures.ran
