@@ -5,6 +5,7 @@ ghost use Rattle.codewords.specs.Corrections.{bit_of, id_of, announced_of};
 use answers::Refusal;
 
 // Bit i of the ID: what two or three of its copies say.
+#[tactic(auto, unfolding(codewords::specs::Corrections::bit_of))]
 fn bit(h: u16, i: u32) -> u16
     requires { i < 5 }
     ensures { (result ≡ bit_of i h) × (result < 2) }
