@@ -66,13 +66,7 @@ fn mended_and_read(
     requires { (lent : List ℕ) × (leaving (Ok size) sent.old ≡ correcting_of f s.now lent) }
     ensures { leaving result d.new ≡ reading_of f s.now d.old }
 {
-    if place < 1 {
-        return frame::read(f, s, d);
-    }
-    if size <= place {
-        return frame::read(f, s, d);
-    }
-    if proposal.len() < size {
+    if place < 1 || size <= place || proposal.len() < size {
         return frame::read(f, s, d);
     }
     sent[place] = byte;

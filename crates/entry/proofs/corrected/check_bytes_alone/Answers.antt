@@ -4,7 +4,4 @@ use Rattle.demands.proofs.Demands.{correction_numbers}
 use Rattle.entry.proofs.corrected.check_bytes_alone.Goals as goal
 
 pub returns : goal.returns
-returns c =
-    rw c.check_bytes.ensures
-    (correction_numbers.check_bytes_alone c.args.word.now
-    (λ j. search rules) _)
+returns c = rw c.check_bytes.ensures (correction_numbers.check_bytes_alone c.args.word.now (λ j. search rules) _)

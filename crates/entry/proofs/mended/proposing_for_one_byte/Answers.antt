@@ -4,7 +4,4 @@ use Rattle.demands.proofs.Demands.{mending_numbers}
 use Rattle.entry.proofs.mended.proposing_for_one_byte.Goals as goal
 
 pub returns : goal.returns
-returns c =
-    rw c.propose_one.ensures
-    (mending_numbers.proposing_for_one_byte _ c.args.s.now
-    (λ j. search rules) _)
+returns c = rw c.propose_one.ensures (mending_numbers.proposing_for_one_byte _ c.args.s.now (λ j. search rules) _)

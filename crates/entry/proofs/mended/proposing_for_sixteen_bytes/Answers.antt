@@ -4,7 +4,4 @@ use Rattle.demands.proofs.Demands.{mending_numbers}
 use Rattle.entry.proofs.mended.proposing_for_sixteen_bytes.Goals as goal
 
 pub returns : goal.returns
-returns c =
-    rw c.propose.ensures
-    (mending_numbers.proposing_for_sixteen_bytes _ c.args.s.now
-    (λ j. search rules) _)
+returns c = rw c.propose.ensures (mending_numbers.proposing_for_sixteen_bytes _ c.args.s.now (λ j. search rules) _)

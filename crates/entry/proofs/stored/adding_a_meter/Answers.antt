@@ -4,6 +4,4 @@ use Rattle.demands.proofs.Demands.{store-numbers}
 use Rattle.entry.proofs.stored.adding_a_meter.Goals as goal
 
 pub returns : goal.returns
-returns c =
-    rw c.add.ensures
-    (store-numbers.adding_a_meter _ (λ j. search rules) _ _ _)
+returns c = rw c.add.ensures (store-numbers.adding_a_meter _ (λ j. search rules) _ _ _)

@@ -4,6 +4,4 @@ use Rattle.demands.proofs.Demands.{store-numbers}
 use Rattle.entry.proofs.stored.adding_by_numbers.Goals as goal
 
 pub returns : goal.returns
-returns c =
-    rw c.add_by_number.ensures
-    (store-numbers.adding_by_numbers _ (λ j. search rules) _ _ _)
+returns c = rw c.add_by_number.ensures (store-numbers.adding_by_numbers _ (λ j. search rules) _ _ _)

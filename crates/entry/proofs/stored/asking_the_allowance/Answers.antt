@@ -4,7 +4,4 @@ use Rattle.demands.proofs.Demands.{store-numbers}
 use Rattle.entry.proofs.stored.asking_the_allowance.Goals as goal
 
 pub returns : goal.returns
-returns c =
-    rw c.allowance.ensures
-    (store-numbers.asking_the_allowance c.args.s.now
-    (λ j. search rules))
+returns c = rw c.allowance.ensures (store-numbers.asking_the_allowance c.args.s.now (λ j. search rules))

@@ -4,6 +4,4 @@ use Rattle.demands.proofs.Demands.{store-numbers}
 use Rattle.entry.proofs.stored.hearing_a_number.Goals as goal
 
 pub returns : goal.returns
-returns c =
-    rw c.hear.ensures
-    (store-numbers.hearing_a_number _ (λ j. search rules) _ _)
+returns c = rw c.hear.ensures (store-numbers.hearing_a_number _ (λ j. search rules) _ _)

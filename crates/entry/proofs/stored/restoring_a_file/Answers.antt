@@ -6,5 +6,4 @@ use Rattle.entry.proofs.stored.restoring_a_file.Goals as goal
 pub returns : goal.returns
 returns c =
     rw c.restore.ensures
-    (store-numbers.restoring_a_file _ (λ j. search rules)
-    c.args.file.now (λ j. search rules))
+    (store-numbers.restoring_a_file _ (λ j. search rules) c.args.file.now (λ j. search rules))

@@ -4,6 +4,4 @@ use Rattle.demands.proofs.Demands.{store-numbers}
 use Rattle.entry.proofs.stored.setting_the_allowance.Goals as goal
 
 pub returns : goal.returns
-returns c =
-    rw c.set_allowance.ensures
-    (store-numbers.setting_the_allowance _ (λ j. search rules) _)
+returns c = rw c.set_allowance.ensures (store-numbers.setting_the_allowance _ (λ j. search rules) _)
