@@ -17,9 +17,10 @@ The pages themselves are not counted, nor what the kit defines (lists, numbers, 
 
 It fails where
   - a page or the table reaches a definition of a proofs/ folder;
-  - a definition of specs/ is reached neither from them nor from a public contract. A file Inner.antt is for those that
-    only contracts of inner functions reach: nobody has to believe them;
-  - a definition of an Inner.antt is reached from any of them;
+  - a definition of specs/ is reached neither from them nor from a public contract. A file Inner.antt (or one that begins
+    so, where it speaks of a type whose ghost field has words of Inner.antt) is for those that only contracts of inner
+    functions and ghost fields reach: nobody has to believe them;
+  - a definition of such a file is reached from any of them;
   - a name of the project cannot be followed, or is a definition and a variable of the same text;
   - docs/BELIEVED.md does not have the figures that are counted, or the files to read for frames in their order, or
     README.md not the sum of those.
@@ -37,6 +38,7 @@ PUBLISHED, README = Path("docs/BELIEVED.md"), Path("README.md")
 OF_FRAMES = ("InBytes", "InChips", "Changes")
 MARKS = r"(?:(?:pattern|abbrev|unfoldable|pub|opaque) )*"
 SIGNATURE = re.compile(rf"^{MARKS}([^\s(){{}};,.]+)\s*:(?:\s|$)")
+INNER = re.compile(r"/specs/Inner\w*\.antt$")
 TYPE = re.compile(rf"^{MARKS}(?:record|data) ([^\s(){{}}]+)")
 IMPORT = re.compile(r"^(?:ghost )?(?:unfoldable )?(?:pub )?use ([^\s{;]+?)(?:\.\{([^}]*)\}| as ([^\s;]+))?;?$")
 GROUP = re.compile(r"^(?:pub )?use ([\w:]+)::\{([^{}]*)\};", re.M)
@@ -287,11 +289,11 @@ def misplaced(house, believed):
         item = house.defined[key]
         if "/proofs/" in item.path:
             yield f"{by.path}: {by.name}: `{item.name}` stands in {item.path}, not in specs/"
-        if item.path.endswith("/Inner.antt"):
+        if INNER.search(item.path):
             yield f"{by.path}: {by.name}: `{item.name}` of {item.path} has to be believed after all"
     inner = house.reached(house.inner)
     for key, item in sorted(house.defined.items()):
-        cited = key in believed or item.path.endswith("/Inner.antt") and key in inner
+        cited = key in believed or INNER.search(item.path) and key in inner
         if "/specs/" in item.path and not cited and item.path != DEMANDS:
             yield f"{item.path}: `{item.name}` is reached by nothing"
     yield from sorted(set(house.open))

@@ -129,7 +129,7 @@ def equation(function):
 
 def defined(name, home):
     """Whether a name that comes from `home` is a definition of a crate's specs/, its Inner.antt aside (D75)."""
-    m = re.fullmatch(r"Rattle\.(\w+)\.specs\.(?!Inner$)(\w+)", home)
+    m = re.fullmatch(r"Rattle\.(\w+)\.specs\.(?!Inner)(\w+)", home)
     path = m and Path(f"crates/{m[1]}/specs/{m[2]}.antt")
     return bool(path) and path.is_file() and re.search(
         rf"^(?:(?:abbrev|unfoldable|pub) )+{re.escape(name)} :", path.read_text(encoding="utf-8"), re.M) is not None

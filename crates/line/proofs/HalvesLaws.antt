@@ -1,6 +1,10 @@
 -- Three-of-six read a byte at a time: its two words are looked up in a table of 64 (`line::codes::half_of`).
---     row_of_listed             Table 10 in rows of eight: what is cut out of a row for a word is what is listed for
---                              it, by computing all 64
+--     half_of v          what is listed for a three-of-six word that stands for v: 16 for no code word
+--     listed_for y       what is listed for the word y
+--     row_of i           this for the eight words from 8 * i on, as one number: two hexadecimal digits each
+--     Halves n t         t is a table of 64 and lists this for each of the first n words
+--     row_of_listed             Table 10 in rows of eight, each one number: what is cut out of a row for a word is what
+--                              is listed for it, by computing all 64
 --     Halves-none, Halves-step    a table of what is listed, filled from the front, entry after entry
 --     half_of_is, half_of_none   what a number listed says of its word
 --     listed_some, listed_none   and the other way round
@@ -10,7 +14,7 @@
 use mathlib.Core.Bool.{Bool, true, false}
 use mathlib.Core.Path.{◌≡◌, refl, ap, sym, ◌∙◌}
 use mathlib.Core.List.{List}
-use Prim.Native.Nat.{ℕ, ◌+◌, ◌*◌, ◌-◌, ◌/◌, ◌%◌, ◌^◌, ◌<◌, ◌≤◌}
+use Prim.Native.Nat.{ℕ, zero, suc, ◌+◌, ◌*◌, ◌-◌, ◌/◌, ◌%◌, ◌^◌, ◌<◌, ◌≤◌}
 use native.Mathlib.Nat.{not-suc-le-zero}
 use native.Mathlib.Omega.{arith}
 use borrow.Author.Tests.{eqb-true, eqb-false}
@@ -18,7 +22,7 @@ use lib.Dec.{eqb}
 use lib.ListN.{length, get_or, set, length-set}
 use lib.Seq.{get_or-set_same, get_or-set_other}
 use lib.Pow.{shr-shr}
-use Rattle.std.specs.Prelude.{Option, Some, None, Ok, Err}
+use Rattle.std.specs.Prelude.{Option, Some, None, unwrap_or, Ok, Err}
 use Rattle.chips.proofs.WindowLaws.{word_at_window}
 use Rattle.chips.specs.Chips.{word_at}
 use Rattle.ground.proofs.TableLaws.{get_or_values}
@@ -26,11 +30,28 @@ use Rattle.line.proofs.CodeLaws.{lawful, word_value_is}
 use Rattle.line.proofs.JoiningLaws.{Joining, joining_start, joining_step, joining_bad, joining_end}
 use Rattle.line.specs.Codes.{LineCode, code_of, word_value, number_for}
 use Rattle.line.specs.Decoding.{value_at}
-use Rattle.line.specs.Inner.{half_of, listed_for, row_of, Halves, byte_read}
+use Rattle.line.specs.Inner.{byte_read}
 use Rattle.line.specs.declared.codes.Code.TheVariants.{ThreeOfSix}
 
 abbrev κ : LineCode
 κ = code_of ThreeOfSix
+
+abbrev pub half_of : Option ℕ → ℕ
+half_of v = unwrap_or v 16
+
+abbrev pub listed_for : ℕ → ℕ
+listed_for y = half_of (word_value κ y)
+
+abbrev listed_up : ℕ → ℕ → ℕ
+listed_up y zero = 0
+listed_up y (suc n) = listed_up y n * 256 + listed_for (y + n)
+
+abbrev pub row_of : ℕ → ℕ
+row_of i = listed_up (8 * i) 8
+
+pub record Halves (n : ℕ) (t : List ℕ) : Type 0 where
+  pub size : length t ≡ 64
+  pub entry : (y : ℕ) → y < n → get_or t y 0 ≡ listed_for y
 
 -- what the source cuts out of a row for the word y
 abbrev cut_out : ℕ → ℕ

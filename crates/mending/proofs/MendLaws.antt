@@ -1,4 +1,4 @@
--- A word with one wrong byte, mended (specs/Inner `Points`, `Tried`).
+-- A word with one wrong byte, mended (`Points`; specs/Inner `Tried`).
 --     clean_nearest    a code word is itself proposed
 --     remains          the remainder of a word has its values at the roots
 --     points_located   the values of the remainder at the first two roots tell where the wrong byte is, if one is
@@ -33,7 +33,17 @@ use Rattle.proposals.proofs.OneByteLaws.{remainder_value, Differ, differ_one, er
 use Rattle.repairing.specs.Inner.{added}
 use Rattle.repairing.specs.Remains.{Remains}
 use Rattle.mending.specs.declared.single.Fault.{Fault}
-use Rattle.mending.specs.Inner.{remainder_of, with_fault, Locates, Points, Tried}
+use Rattle.mending.specs.Inner.{remainder_of, Inside, Locates, Tried}
+
+-- w with the error of r added at its place
+abbrev pub with_fault : List ℕ → Option Fault → List ℕ
+with_fault w None = w
+with_fault w (Some a) = added w a.place a.error
+
+-- the code word near w is w with the error of r added at its place
+pub record Points (w : List ℕ) (r : Option Fault) : Type 0 where
+  pub inside : Inside (length w) r
+  pub near : (c : List ℕ) → Near 1 w c → c ≡ with_fault w r
 
 pub clean_nearest : (k : ℕ) (w : List ℕ) → Bytes w → length w ≤ 255 → k ≤ 16 → is_code_block w ≡ true
     → w ≡ nearest_of k w

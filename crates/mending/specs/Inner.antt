@@ -1,9 +1,7 @@
 -- What the inner functions of mending cite. A fault is one wrong byte, its place and its error, or None.
 --     remainder_of w          the last 32 bytes of w and the check bytes of those before, added
---     with_fault w r          w with the error of r added at its place
 --     Locates x y n r        if x and y are the values at the first two roots of one wrong byte with p bytes behind it
 --                            in a word of n bytes, r is its place and its error; and None where x is 0
---     Points w r             the code word near w is w with the error of r added at its place
 --     Tried w a m            m is w with the error of a added at its place if that is a code word, else w
 use Rattle.std.specs.Prelude.{cond, List, Option, Some, None, IfSome, ◌≡◌, ℕ, suc, ◌+◌, ◌-◌, ◌*◌, ◌<◌, length, take, drop}
 use Rattle.ground.specs.Sums.{xors}
@@ -16,10 +14,6 @@ use Rattle.mending.specs.declared.single.Fault.{Fault}
 abbrev pub remainder_of : List ℕ → List ℕ
 remainder_of w = let end = length w - 32 in xors (drop end w) (checks_of (take end w))
 
-abbrev pub with_fault : List ℕ → Option Fault → List ℕ
-with_fault w None = w
-with_fault w (Some a) = added w a.place a.error
-
 abbrev pub Inside : ℕ → Option Fault → Type 0
 Inside n r = IfSome r (λ a. (a.place < n) × (a.error < 256))
 
@@ -30,10 +24,6 @@ pub record Locates (x y n : ℕ) (r : Option Fault) : Type 0 where
       (e p : ℕ) → 0 < e → e < 256 → p < n → n < 256
       → x ≡ mul e (alpha_to (11 * (112 + 0) * p)) → y ≡ mul e (alpha_to (11 * (112 + 1) * p))
       → r ≡ Some (record { place = n - suc p; error = e })
-
-pub record Points (w : List ℕ) (r : Option Fault) : Type 0 where
-  pub inside : Inside (length w) r
-  pub near : (c : List ℕ) → Near 1 w c → c ≡ with_fault w r
 
 abbrev pub Tried : List ℕ → Fault → List ℕ → Type 0
 Tried w a m = let v = added w a.place a.error in m ≡ cond (is_code_block v) v w

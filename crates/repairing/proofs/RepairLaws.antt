@@ -6,6 +6,7 @@
 use Rattle.std.proofs.Common.{Bool, true, false, cond, List, ◌⊎◌, inl, inr, ⊎_elim, ◌≡◌, refl, sym, ap, ap₂, subst, ◌∙◌}
 use Rattle.std.proofs.Common.{ℕ, suc, ◌+◌, ◌-◌, ◌≤◌, ◌<◌, arith, eqb, length, get_or, take, drop, replicate}
 use Rattle.std.proofs.Common.{length-drop, take_all, get_or-drop, ext_get_or}
+use Rattle.std.specs.Prelude.{◌↔◌}
 use mathlib.Core.Bool.{false≢true}
 use lib.ListN.{get_or-replicate}
 use Rattle.std.specs.Cmp.Lexicographic.{pointwise}
@@ -24,10 +25,14 @@ use Rattle.locating.proofs.ReduceLaws.{combined_part}
 use Rattle.codewords.specs.CodeBlocks.{CodeBlock}
 use Rattle.proposals.specs.Near.{Near, nearest_of}
 use Rattle.proposals.proofs.NearestLaws.{near, nearest_is, nearest_near}
-use Rattle.repairing.specs.Inner.{Held, AllZero, Word, Coefficients, Going, Ended}
+use Rattle.repairing.specs.Inner.{Held, Word, Coefficients, Going, Ended}
 use Rattle.repairing.specs.Remains.{Remains}
 use Rattle.repairing.proofs.ErrorLaws.{errors, errors_count, errors_bytes, error_at, errors_values}
 use Rattle.repairing.proofs.GoingLaws.{word_of, going_of}
+
+-- r tells whether all of the values s are 0
+abbrev pub AllZero : List ℕ → Bool → Type 0
+AllZero s r = (r ≡ true) ↔ ((k : ℕ) → k < 32 → get_or s k 0 ≡ 0)
 
 -- ---- the beginning
 

@@ -3,7 +3,6 @@
 --     Held w s                 s are the values of w at the 32 roots
 --     term e p k               what e at place p adds to the value at root k
 --     Followed s p e t         t are the values s after e was added at place p
---     AllZero s r              r tells whether all of the values s are 0
 --     Tells s v y p e          e times y and the power of the locator is what v combines the values to
 --     Word u w s               u was received, w is what it is made to, its first byte the same, and s are its values
 --     Coefficients v d         v begins with the d + 1 coefficients of a polynomial, the first of them not 0
@@ -36,9 +35,6 @@ term e p k = mul e (alpha_to (11 * ((112 + k) * p)))
 pub record Followed (s : List ℕ) (p e : ℕ) (t : List ℕ) : Type 0 where
   pub count : length t ≡ 32
   pub values : (k : ℕ) → k < 32 → get_or t k 0 ≡ bit_xor (get_or s k 0) (term e p k)
-
-abbrev pub AllZero : List ℕ → Bool → Type 0
-AllZero s r = (r ≡ true) ↔ ((k : ℕ) → k < 32 → get_or s k 0 ≡ 0)
 
 pub record Tells (s v : List ℕ) (y p e : ℕ) : Type 0 where
   pub byte : e < 256
