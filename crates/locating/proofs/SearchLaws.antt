@@ -142,12 +142,15 @@ module _ {s v : List ℕ} {kept : List (Option Kept)} {low i x : ℕ} (slots : S
   abbrev more : Kept
   more = record { row = v; lead = x }
 
-  heavier : taken (set kept i (Some more)) ≡ suc (taken kept)
+  abbrev added : List (Option Kept)
+  added = set kept i (Some more)
+
+  heavier : taken added ≡ suc (taken kept)
   heavier = taken-set kept i more (omega (arith, slots.count, stands.within)) stands.free
 
   pub more_left : 0 < low
   more_left =
-      omega (arith, heavier, count_by-le-length is_some (set kept i (Some more)), length-set kept i (Some more), slots.count, count)
+      omega (arith, heavier, count_by-le-length is_some added, length-set kept i (Some more), slots.count, count)
 
   next-reducing : {u : List ℕ} {k n : ℕ} → u ≡ raised v → k ≡ i - 1 → n ≡ low - 1 → Reducing s n u k
   next-reducing {u} {k} {n} eu ek en =
@@ -155,11 +158,10 @@ module _ {s v : List ℕ} {kept : List (Option Kept)} {low i x : ℕ} (slots : S
       (subst (λ (l : List ℕ). Reducing s (low - 1) l k) (sym eu)
       (subst (Reducing s (low - 1) (raised v)) (sym ek) (raised-reducing at more_left)))
 
-  pub search_on : {u : List ℕ} {k n : ℕ} → u ≡ raised v → k ≡ i - 1 → n ≡ low - 1
-      → Searching s (set kept i (Some more)) n u k
+  pub search_on : {u : List ℕ} {k n : ℕ} → u ≡ raised v → k ≡ i - 1 → n ≡ low - 1 → Searching s added n u k
   search_on {u} {k} {n} eu ek en =
       record {
-        slots = subst (Slots s (set kept i (Some more))) (sym en) (slots_more slots at stands more_left);
+        slots = subst (Slots s added) (sym en) (slots_more slots at stands more_left);
         count = omega (arith, heavier, more_left, count);
         within = omega (arith, stands.within);
         reducing = next-reducing eu ek en;

@@ -1,9 +1,10 @@
 -- Values combined: products of coefficients, the last one first, and values from a place on, added up.
 --     total          the products of pairs, added up
 --     total-push     one more pair
+--     value_beside, zip-cons   one more coefficient, beside its value
 --     total_zip      with the coefficients the other way round this is what they combine the values to
 -- Assumes nothing.
-use Rattle.std.proofs.Common.{List, [], ◌∷◌, ◌++◌, ◌≡◌, refl, sym, ap, ap₂, ◌∙◌, ℕ, ◌+◌, ◌≤◌, ◌<◌, arith, bit_xor}
+use Rattle.std.proofs.Common.{List, [], ◌∷◌, ◌++◌, ◌≡◌, refl, sym, ap, ◌∙◌, ℕ, ◌+◌, ◌≤◌, ◌<◌, arith, bit_xor}
 use Rattle.std.proofs.Common.{length, get_or, drop, reverse, zip, get_or-drop, length-drop}
 use Rattle.std.proofs.lemmas.Grind.{reverse_onto}
 use Rattle.std.proofs.lemmas.List.{length-reverse}
@@ -30,16 +31,22 @@ zip-push [] x (y ∷ ys) h = refl
 zip-push (z ∷ xs) x [] h = absurd (omega arith)
 zip-push (z ∷ xs) x (y ∷ ys) h = ap (λ (ps : List (ℕ × ℕ)). (z, y) ∷ ps) (zip-push xs x ys (omega arith))
 
+-- the value beside one more coefficient
+value_beside : (s v : List ℕ) (i : ℕ) → get_or (drop i s) (length (reverse v)) 0 ≡ get_or s (i + length v) 0
+value_beside s v i =
+    get_or-drop i s (length (reverse v)) 0 ∙ ap (λ (k : ℕ). get_or s (i + k) 0) (length-reverse v)
+
+zip-cons : (s v : List ℕ) (i b : ℕ) → i + length v < length s
+    → zip (reverse (b ∷ v)) (drop i s) ≡ zip (reverse v) (drop i s) ++ ((b, get_or s (i + length v) 0) ∷ [])
+zip-cons s v i b h =
+    ap (λ (l : List ℕ). zip l (drop i s)) (reverse_onto v b [])
+    ∙ zip-push (reverse v) b (drop i s) (omega (arith, length-reverse v, length-drop i s))
+    ∙ ap (λ (y : ℕ). zip (reverse v) (drop i s) ++ ((b, y) ∷ [])) (value_beside s v i)
+
 pub total_zip : (s v : List ℕ) (i : ℕ) → i + length v ≤ length s → total (zip (reverse v) (drop i s)) ≡ combined s v i
 unfolding combined total
 total_zip s [] i h = refl
 total_zip s (b ∷ v) i h =
-    let front = reverse v in
-    let count : length front ≡ length v = length-reverse v in
-    let there : get_or (drop i s) (length front) 0 ≡ get_or s (i + length v) 0
-    = get_or-drop i s (length front) 0 ∙ ap (λ (k : ℕ). get_or s (i + k) 0) count in
-    ap (λ (l : List ℕ). total (zip l (drop i s))) (reverse_onto v b [])
-    ∙ ap total (zip-push front b (drop i s) (omega (arith, count, length-drop i s)))
-    ∙ total-push (zip front (drop i s)) b (get_or (drop i s) (length front) 0)
-    ∙ ap₂ (λ (x y : ℕ). bit_xor x (mul b y)) (total_zip s v i (omega arith)) there
-    ∙ xor_comm (combined s v i) (mul b (get_or s (i + length v) 0))
+    let x = get_or s (i + length v) 0 in
+    ap total (zip-cons s v i b (omega arith)) ∙ total-push (zip (reverse v) (drop i s)) b x
+    ∙ ap (λ (z : ℕ). bit_xor z (mul b x)) (total_zip s v i (omega arith)) ∙ xor_comm (combined s v i) (mul b x)

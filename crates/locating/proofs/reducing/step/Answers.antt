@@ -26,5 +26,6 @@ returns-in-None-clause-stepped c =
 pub returns-in-Some-clause-stepped : goal.returns-in-Some-clause-stepped
 returns-in-Some-clause-stepped c =
     let at = c.requires.reducing.1 in
-    cleared at (c.requires.slots.slot c.args.column c.requires.reducing.0 c.in-Some.polynomial c.in-Some.is).1 c.clear.ensures
+    let kept = c.requires.slots.slot c.args.column c.requires.reducing.0 c.in-Some.polynomial c.in-Some.is in
+    cleared at kept.1 c.clear.ensures
     (sym (combined_part _ _ at.poly) ∙ sym c.combine-sum.ensures)

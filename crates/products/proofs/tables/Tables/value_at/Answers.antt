@@ -1,5 +1,5 @@
--- `products::tables::Tables::value_at` meets its contract: after each byte, what was folded is the value of the bytes so
--- far. Assumes nothing.
+-- `products::tables::Tables::value_at` meets its contract: after each byte, what was folded is the value of the bytes
+-- so far. Assumes nothing.
 use Rattle.std.proofs.Common.{◌≡◌, ◌++◌, ◌∷◌, [], ℕ, List, ap, ◌∙◌, sym, refl, rules, bit_xor}
 use Rattle.std.proofs.lemmas.Fn.{fold_over, fronts}
 use Rattle.std.proofs.lemmas.Iterator.{YieldsList-from_slice}
