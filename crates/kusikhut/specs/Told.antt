@@ -54,8 +54,8 @@ told_answer w at row (Err r) = told_refusal w (at r) r
 abbrev pub first_place : Refusal → ℕ
 first_place r = 0
 
--- one number: bytes written, a word's value, a new check, a number that was asked for, in how many bytes a proposal that
--- is taken differs from what was received
+-- one number: bytes written, a word's value, a new check, a number that was asked for, in how many bytes a proposal
+-- that is taken differs from what was received
 abbrev pub told_number : Result ℕ Refusal → Told ℕ
 told_number = told_answer 1 first_place (λ n. n ∷ [])
 
