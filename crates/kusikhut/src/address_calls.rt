@@ -9,7 +9,13 @@ pub fn kusikhut_maker(m: u16, v: &mut [u64; 5]) -> u8
     let maker = address::maker_of(m);
     let soft = maker.reach as u64;
     *v = match maker.spelled {
-        Some((first, second, third)) => [1, u64::from(first), u64::from(second), u64::from(third), soft],
+        Some((first, second, third)) => [
+            1,
+            u64::from(first),
+            u64::from(second),
+            u64::from(third),
+            soft,
+        ],
         None => [0, 0, 0, 0, soft],
     };
     0

@@ -44,8 +44,7 @@ module _ {κ : LineCode} (law : Lawful κ) (s : List ℕ) where
       (ap (λ (n : ℕ). word_at s (8 * i) n / 2 ^ rest % 2 ^ κ.bits) (sym all)
       ∙ gather_within (chip_at s) (chip_at-lt s) (8 * i) (k * κ.bits) κ.bits rest)
 
-  pub gather-encoded_chip-suc : (i k : ℕ)
-      → gather (encoded_chip κ s) (i * unit_of κ) (k * κ.chips) * 2 ^ κ.chips
+  pub gather-encoded_chip-suc : (i k : ℕ) → gather (encoded_chip κ s) (i * unit_of κ) (k * κ.chips) * 2 ^ κ.chips
       + κ.word_of (word_at s ((i * (8 / κ.bits) + k) * κ.bits) κ.bits)
       ≡ gather (encoded_chip κ s) (i * unit_of κ) ((k + 1) * κ.chips)
   gather-encoded_chip-suc i k =

@@ -123,8 +123,7 @@ module _ (k : Kind) (c buf : List ℕ) where
       omega (arith, same, length-sent_of k c)
 
 module _ (k : Kind) (c d : List ℕ) (bytes : Bytes c) (room : length c ≤ length d) where
-  pub receiving_of_among :
-      (pre post : List ℕ) (start a t : ℕ) → (form_of (format_of k)).shortest ≤ length c
+  pub receiving_of_among : (pre post : List ℕ) (start a t : ℕ) → (form_of (format_of k)).shortest ≤ length c
       → length c ≤ (form_of (format_of k)).longest → let s = pre ++ (sent_of k c ++ post) in
       length s ≤ room_limit → Reached (searched k) s start a (8 * length pre) t
       → receiving_of k s start a d ≡ heard_of k (8 * length pre) t (frame_size (format_of k) (length c)) c d

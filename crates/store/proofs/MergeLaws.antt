@@ -65,8 +65,7 @@ module _ {s : List ℕ} {count : ℕ} {file : List ℕ} {first n : ℕ} (m : Mer
         let fit = rw known at (all_fit_meter_of a R (key_at_lt file m.file_bytes (first + 20 * i + 1)) all_fit) in
         meter_in-merging s R (room_at (omega arith)) (place_of a R) (stranger a) (held-lt held) fit ∙ sym known
 
-    stranger_new :
-        count ≤ place_of (address_at file first i) (restored_to s count file first i)
+    stranger_new : count ≤ place_of (address_at file first i) (restored_to s count file first i)
         → stranger (meter_in (drop (first + 20 * i) file)).address
         ≡ meter_of (address_at file first i) (restored_to s count file first i)
     stranger_new new =
@@ -95,8 +94,7 @@ module _ {s : List ℕ} {count : ℕ} {file : List ℕ} {first n : ℕ} (m : Mer
             ∙ (merging_put s R (room_at (omega arith)) a new (omega (arith, m.room, place-lt))
             ∙ ap (merging s) (rw is (sym (restored_to-suc s count file first i)))))
 
-        merge_held :
-            p < count → let own = meter_in (drop (8 + 20 * p) t) in
+        merge_held : p < count → let own = meter_in (drop (8 + 20 * p) t) in
             sets t (8 + 20 * p) (meter_bytes (merged own (meter_in (drop (first + 20 * i) file))))
             ≡ merging s (restored_to s count file first (suc i))
         merge_held held =
