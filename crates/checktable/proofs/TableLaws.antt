@@ -17,8 +17,9 @@ use Rattle.checktable.specs.Rows.{row_of}
 
 same_or_below : (k n : ℕ) → k < suc n → (k ≡ n) ⊎ (k < n)
 same_or_below k n h = elim (eqb k n) as (λ t. eqb k n ≡ t → (k ≡ n) ⊎ (k < n)) [
-      true ↦ λ e. inl (eqb-true k n e)
-    | false ↦ λ e. inr (omega (arith, eqb-false k n e)) ] refl
+  | true ↦ λ e. inl (eqb-true k n e)
+  | false ↦ λ e. inr (omega (arith, eqb-false k n e))
+] refl
 
 unfoldable pub are_rows : List ℕ → ℕ → Bool
 are_rows t zero = true
