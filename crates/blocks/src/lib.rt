@@ -97,7 +97,7 @@ struct Spot {
 
 // Each loop takes a whole span in a turn, so none of them counts by one.
 impl Cut {
-    // The first wrong block among those of the t bytes that s begins with, counted from 1, if a check is wrong.
+    // The first wrong block among those of the t bytes that s begins with, counted from 1; None if all are right.
     pub fn first_wrong(self, s: &[u8], t: usize) -> Option<usize>
         requires { size_of (spans self.first self.later t) ≤ length s.now }
         ensures { result ≡ first_wrong 1 (spans self.first self.later t) s.now }

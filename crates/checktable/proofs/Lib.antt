@@ -1,2 +1,2 @@
-pub mod LastLaws
+pub mod TableLaws
 pub mod RowLaws

@@ -14,6 +14,9 @@ returns c =
     let two : a.at + 2 - a.at ≡ 2 = omega arith in
     let high : a.check / 256 % 256 ≡ a.check / 256 = omega arith in
     let bytes = a.check / 256 ∷ a.check % 256 ∷ [] in
-    let after = rw high at (c.copy_from_slice.ensures.after ∙ c.to_be_bytes.ensures) in
-    rw (two, copied a.s.now bytes a.at 2 after, add-one a.at)
+    rw (
+      two,
+      copied a.s.now bytes a.at 2 (rw high at (c.copy_from_slice.ensures.after ∙ c.to_be_bytes.ensures)),
+      add-one a.at,
+    )
     (sym (sets-eq bytes a.s.now a.at (omega arith)))

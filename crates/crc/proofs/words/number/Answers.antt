@@ -22,11 +22,11 @@ overflow_mul-w c = omega (arith, few (goal.at.overflow_mul-w c).In-loop-b)
 pub loop-b-preserved : goal.loop-b-preserved
 loop-b-preserved c =
     let at = c.loop-b in
+    let i = at.b-index in
     let s = c.args.s.now in
-    let byte : get_or s at.b-index 0 < 256 = omega (arith, c.type_inv.s at.b-index) in
-    let few_more = few (goal.at.loop-b-preserved c).In-loop-b in
+    let byte : get_or s i 0 < 256 = omega (arith, c.type_inv.s i) in
     rw c.from.ensures (
-      number_lt at.w _ at.b-index at.invariant.0 byte,
-      rw (zero-add at.b-index) at (adds_number s 0 at.b-index at.w (omega (arith, few_more))
-          (omega arith) (rw (zero-add at.b-index) byte) at.invariant.1),
+      number_lt at.w _ i at.invariant.0 byte,
+      rw (zero-add i) at (adds_number s 0 i at.w (omega (arith, few (goal.at.loop-b-preserved c).In-loop-b))
+          (omega arith) (rw (zero-add i) byte) at.invariant.1),
     )
