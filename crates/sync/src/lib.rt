@@ -44,7 +44,7 @@ fn unmarked(x: usize, r: usize) -> usize
         & (one_one << 10)
         & (one_one << 12)
         & (zero_one << 14);
-    usize::leading_zeros(marks << (r as u32)) as usize
+    (marks << r).leading_zeros() as usize
 }
 
 // How many of the n places from r on are tried before the word stands in the 64 chips x.
@@ -54,7 +54,7 @@ fn first_in(x: usize, r: usize, n: usize) -> usize
     ensures { result ≡ passed (λ j. eqb (x / 2 ^ (48 - j) % 65536) sync_word) r n }
 {
     for j in unmarked(x, r).min(n)..n {
-        let below = (48 - (r + j)) as u32;
+        let below = 48 - (r + j);
         if (x >> below) % 65536 == 0x543D {
             return j;
         }
