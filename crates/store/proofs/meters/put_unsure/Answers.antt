@@ -1,0 +1,15 @@
+-- `meters::put_unsure` meets its contract: a run and the mark behind it. Assumes nothing.
+use mathlib.Core.List.{[], ◌∷◌}
+use Prim.Native.Nat.{◌+◌, ◌-◌}
+use native.Mathlib.Omega.{arith}
+use Rattle.ground.proofs.StoresLaws.{sets_then}
+use Rattle.address.proofs.StoreLaws.{part_stored}
+use Rattle.store.proofs.meters.put_unsure.Goals as goal
+
+pub returns : goal.returns
+returns c =
+    let out = c.args.out.now in
+    let v = c.args.unmarked.now in
+    let n = c.args.at + 19 - c.args.at in
+    let copied = part_stored v out c.args.at n (omega (arith, c.requires.0)) (omega arith) c.copy_from_slice.ensures.after in
+    sets_then v (1 ∷ []) out c.args.at copied (rw c.requires.0)
