@@ -17,9 +17,10 @@ The pages themselves are not counted, nor what the kit defines (lists, numbers, 
 
 It fails where
   - a page or the table reaches a definition of a proofs/ folder;
-  - a definition of specs/ is reached neither from them nor from a public contract. A file Inner.antt is for those that
-    only contracts of inner functions reach: nobody has to believe them;
-  - a definition of an Inner.antt is reached from any of them;
+  - a definition of specs/ is reached neither from them nor from a public contract. A file Inner.antt (or one that begins
+    so, where it speaks of a type whose ghost field has words of Inner.antt) is for those that only contracts of inner
+    functions and ghost fields reach: nobody has to believe them;
+  - a definition of such a file is reached from any of them;
   - a name of the project cannot be followed, or is a definition and a variable of the same text;
   - docs/BELIEVED.md does not have the figures that are counted, or the files to read for frames in their order, or
     README.md not the sum of those.
@@ -37,6 +38,7 @@ PUBLISHED, README = Path("docs/BELIEVED.md"), Path("README.md")
 OF_FRAMES = ("InBytes", "InChips", "Changes")
 MARKS = r"(?:(?:pattern|abbrev|unfoldable|pub|opaque) )*"
 SIGNATURE = re.compile(rf"^{MARKS}([^\s(){{}};,.]+)\s*:(?:\s|$)")
+INNER = re.compile(r"/specs/Inner\w*\.antt$")
 TYPE = re.compile(rf"^{MARKS}(?:record|data) ([^\s(){{}}]+)")
 IMPORT = re.compile(r"^(?:ghost )?(?:unfoldable )?(?:pub )?use ([^\s{;]+?)(?:\.\{([^}]*)\}| as ([^\s;]+))?;?$")
 GROUP = re.compile(r"^(?:pub )?use ([\w:]+)::\{([^{}]*)\};", re.M)
@@ -115,6 +117,16 @@ def functions(path, public):
             yield Item(str(path), m.group(3), lines[no:end + 1])
 
 
+def ghosts(path):
+    """The ghost fields and ghost members of a source file: what a type, a trait or an impl promises of itself."""
+    lines = code(path)
+    for no, line in enumerate(lines):
+        m = re.match(r"\s+ghost (\w+)\s*[:=]", line)
+        if m:
+            end = next(k for k in range(no, len(lines)) if lines[k].endswith((";", ",")))
+            yield Item(str(path), m.group(1), lines[no:end + 1])
+
+
 class House:
     """Every definition of the crates, and what each file calls by which name."""
 
@@ -132,7 +144,7 @@ class House:
                 self.defined[key] = item
                 self.types[path.parts[1], item.name] = key
             self.public += functions(path, True)
-            self.inner += functions(path, False)
+            self.inner += [*functions(path, False), *ghosts(path)]
         read = []
         for path in sorted(crates.glob("*/specs/*.antt")) + sorted(crates.glob("*/proofs/*.antt")):
             module = f"Rattle.{path.parts[1]}.{path.parts[2]}" + ("" if path.stem == "Lib" else "." + path.stem)
@@ -277,11 +289,11 @@ def misplaced(house, believed):
         item = house.defined[key]
         if "/proofs/" in item.path:
             yield f"{by.path}: {by.name}: `{item.name}` stands in {item.path}, not in specs/"
-        if item.path.endswith("/Inner.antt"):
+        if INNER.search(item.path):
             yield f"{by.path}: {by.name}: `{item.name}` of {item.path} has to be believed after all"
     inner = house.reached(house.inner)
     for key, item in sorted(house.defined.items()):
-        cited = key in believed or item.path.endswith("/Inner.antt") and key in inner
+        cited = key in believed or INNER.search(item.path) and key in inner
         if "/specs/" in item.path and not cited and item.path != DEMANDS:
             yield f"{item.path}: `{item.name}` is reached by nothing"
     yield from sorted(set(house.open))

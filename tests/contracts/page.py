@@ -20,13 +20,14 @@ import sys
 from collections import namedtuple
 from pathlib import Path
 
-from settled import ASKING, WORD, Function, equation, functions, head_of, imports
+from settled import ASKING, WORD, Function, equation, functions, head_of, imports, trait_functions
 
 PAGE = Path("crates/demands/specs/Demands.antt")
 CRATES = ("address", "channels", "chipreader", "correction", "crc", "filter", "frame", "header", "line", "mending",
           "radio", "store", "sync")
-# public functions that are no entry points: the layout of a header's kind, which `read` and `write` share
-INNER = {f"header::{name}" for name in ("ci_of", "has_receiver", "has_session", "session_place", "header_length")}
+# public functions that are no entry points: the CI byte of a header's kind, and check bytes as they are, which
+# `correction::check_bytes` writes
+INNER = {"header::HeaderKind::ci", "correction::checks"}
 BELOW = re.compile(r"Rattle\.(?!kusikhut\.|std\.)\w+\.specs\.(?!declared\.)")
 
 # what an exported function is named for, and what its contract must then have
@@ -77,7 +78,8 @@ def entry_points():
     """The entry points by the name that the page uses: `crate::function`, an exported one without its crate."""
     found = {}
     for path in sorted(Path("crates").glob("*/src/**/*.rt")):
-        for f in functions(path.parts[1], path.read_text(encoding="utf-8")):
+        text = path.read_text(encoding="utf-8")
+        for f in [*functions(path.parts[1], text), *trait_functions(path.parts[1], text)]:
             if f.exported or path.parts[1] in CRATES and f.name not in ASKING | INNER:
                 found[f.name.replace("kusikhut_c::", "")] = f
     return found

@@ -19,17 +19,17 @@ from collections import namedtuple
 from pathlib import Path
 
 # public functions that may ask something of their caller (D23); none of them is an entry point or exported
-ASKING = {"chips::word", "chips::narrow", "blocks::first_wrong", "blocks::copy_part", "blocks::take_out",
-          "blocks::put_all", "blocks::set_byte", "address::two_at", "address::name_at", "address::put_four",
-          "address::put_name", "address::four_at", "address::key_at", "address::put_number", "address::put_key",
-          "products::times", "products::times_power", "products::ratio", "products::value_at", "products::combine",
-          "locating::locate", "repairing::repair"}
+ASKING = {"chips::word", "chips::narrow", "blocks::Cut::first_wrong", "blocks::Cut::take_out", "blocks::Cut::put_all",
+          "blocks::Cut::set_byte", "frame::FormatA::length_byte", "frame::FormatB::length_byte",
+          "frame::FormatA::size", "frame::FormatB::size", "address::two_at", "address::name_at", "address::put_four", "address::put_name",
+          "address::four_at", "address::key_at", "address::put_number", "address::put_key",
+          "products::Tables::times_power", "products::Tables::ratio", "products::Tables::value_at",
+          "products::Tables::combine", "repairing::repair"}
 # clauses beside the equation, by name: document 01's own words on the update (D20); they allow no other answer
 BESIDE = {("crc::update", "mends")}
-# facts that settle and are no equation with a definition, word for word: a byte is itself, and below 256; the other
-# two by theorems of their own (products/proofs/SettledLaws)
-OTHERWISE = {"chips::wide": ["result ≡ b", "result < 256"], "products::ratio": ["mul result b ≡ a"],
-             "products::tables_lent": ["TablesOk result.powers result.logs"]}
+# facts that settle and are no equation with a definition, word for word (products/proofs/SettledLaws)
+OTHERWISE = {"products::Tables::ratio": ["mul result b ≡ a"],
+             "products::Tables::new": ["TablesOk result.powers result.logs"]}
 # public functions that leave something open, and on purpose (D111): nobody sees it but the crate above. None of them is
 # an entry point or exported
 LEFT_OPEN = {"locating::locate", "repairing::repair"}
@@ -37,10 +37,12 @@ LEFT_OPEN = {"locating::locate", "repairing::repair"}
 # (`sets`) or copied there (`paste`)
 KIT, HEADS = {"length", "drop", "replicate"}, {"sets", "paste"}
 # where the words that equations are made of must come from
-HOMES = {"◌≡◌": "Rattle.std.specs.Prelude", "Outcome": "Rattle.answers.specs.Outcome",
+HOMES = {"◌≡◌": "Rattle.std.specs.Prelude", "leaving": "Rattle.answers.specs.Outcome",
          "told": "Rattle.kusikhut.specs.Told", "shown": "Rattle.kusikhut.specs.Told"}
 
 FUNCTION = re.compile(r'^( *)pub (extern "C" )?fn (\w+)(.*?)\s\{\n', re.S | re.M)
+TRAIT = re.compile(r"^pub trait (\w+) \{\n(.*?)^\}", re.S | re.M)
+METHOD = re.compile(r"^    fn (\w+)(.*?);$", re.S | re.M)
 PUBLIC = re.compile(r'^\s*pub\b[^(\n]*\bfn ', re.M)
 IMPORT = re.compile(r"^(?:ghost )?use ([^\s{;]+)\.\{([^}]*)\};?$", re.M)
 CLAUSE = re.compile(r"\s*(requires|ensures)(?: (\w+))? \{")
@@ -62,8 +64,18 @@ def imports(crate, text):
 def functions(crate, text):
     """The public functions of a source file; a method has its type's name before its own."""
     for m in FUNCTION.finditer(text):
-        types = re.findall(r"^impl (\w+)", text[:m.start()], re.M) if m[1] else []
+        types = re.findall(r"^impl(?:<[^>]*>)? (\w+)", text[:m.start()], re.M) if m[1] else []
         yield Function("::".join([crate, *types[-1:], m[3]]), bool(m[2]), m[4], imports(crate, text))
+
+
+def trait_functions(crate, text):
+    """The functions of a source file's public traits, once for each type that has them: the trait has their contracts,
+    over ghost members that each type gives."""
+    for name, body in TRAIT.findall(text):
+        given = {ghost: f"Rattle.{crate}.specs.declared.{name}" for ghost in re.findall(r"^    ghost (\w+):", body, re.M)}
+        for of in re.findall(rf"^impl {name} for (\w+)", text, re.M):
+            for method, head in METHOD.findall(body):
+                yield Function(f"{crate}::{of}::{method}", False, head, {**imports(crate, text), **given})
 
 
 def parts(head):
@@ -96,7 +108,7 @@ def lefts(returns, lent):
     if not after:
         return ["result"]
     if len(after) == 1:
-        return [f"record {{ answer = result; memory = {after[0]} }}", f"told result {after[0]}"]
+        return [f"leaving result {after[0]}", f"told result {after[0]}"]
     return [f"shown result {x} {y}" for x, y in (after, after[::-1])] if len(after) == 2 else []
 
 
@@ -110,16 +122,14 @@ def equation(function):
     lent = re.findall(r"(\w+): &(?:'\w+ )?mut ", signature) + re.findall(r"&(?:'\w+ )?mut (self)\b", signature)
     allowed = lefts(returns, lent)
     for left in allowed:
-        typed = f"◌≡◌ {{A = Outcome {returns and returns[1].strip()}}} ({left}) ("
-        for before, behind in ((f"{left} ≡ ", ""), (typed, ")")):
-            if settling[0].startswith(before) and settling[0].endswith(behind):
-                return settling[0][len(before):len(settling[0]) - len(behind)], None
+        if settling[0].startswith(f"{left} ≡ "):
+            return settling[0].removeprefix(f"{left} ≡ "), None
     return None, f"its clause is no equation of {' or '.join(allowed) or 'all that is lent'}"
 
 
 def defined(name, home):
     """Whether a name that comes from `home` is a definition of a crate's specs/, its Inner.antt aside (D75)."""
-    m = re.fullmatch(r"Rattle\.(\w+)\.specs\.(?!Inner$)(\w+)", home)
+    m = re.fullmatch(r"Rattle\.(\w+)\.specs\.(?!Inner)(\w+)", home)
     path = m and Path(f"crates/{m[1]}/specs/{m[2]}.antt")
     return bool(path) and path.is_file() and re.search(
         rf"^(?:(?:abbrev|unfoldable|pub) )+{re.escape(name)} :", path.read_text(encoding="utf-8"), re.M) is not None
@@ -175,7 +185,7 @@ def apart(met):
 
 
 ONE, LENT = "(s: &[u8]) -> u8", "(s: &[u8], d: &mut [u8]) -> u8"
-ITSELF = "record { answer = result; memory = d.new }"
+ITSELF = "leaving result d.new"
 # heads that leave something open, each with a word of the fault that must be found
 OPEN = [
     (ONE, "0 settling"),
@@ -199,35 +209,35 @@ OPEN = [
     (ONE + " ensures { told 0 s.now ≡ meaning }", "no equation of result"),
     ("(result: u8) -> u8 ensures { result ≡ meaning result }", "a parameter's name"),
     (ONE + " requires { 1 ≡ 0 } ensures { result ≡ meaning s.now }", "asks something"),
-    (LENT + " ensures { result ≡ meaning s.now }", "no equation of record"),
-    (LENT + " ensures { told result s.now ≡ meaning d.new }", "no equation of record"),
+    (LENT + " ensures { result ≡ meaning s.now }", "no equation of leaving"),
+    (LENT + " ensures { told result s.now ≡ meaning d.new }", "no equation of leaving"),
     (LENT + " ensures { told result d.new ≡ meaning d.new }", "memory at exit"),
     (LENT + " ensures { told result d.new ≡ meaning (d).new }", "memory at exit"),
-    (LENT + " ensures { record { answer = 0; memory = d.new } ≡ meaning }", "no equation of record"),
-    (LENT + " ensures { record { answer = result; memory = d.old } ≡ meaning }", "no equation of record"),
+    (LENT + " ensures { leaving 0 d.new ≡ meaning }", "no equation of leaving"),
+    (LENT + " ensures { leaving result d.old ≡ meaning }", "no equation of leaving"),
     (LENT + f" ensures {{ {ITSELF} ≡ {ITSELF} }}", "speaks of the result"),
-    (LENT + f" ensures {{ ◌≡◌ {{A = Outcome u8}} ({ITSELF}) ({ITSELF}) }}", "speaks of the result"),
-    (LENT + f" ensures {{ ◌≡◌ {{A = ⊤}} ({ITSELF}) (meaning) }}", "no equation of record"),
-    (LENT + f" ensures {{ ◌≡◌ {{A = Outcome u8}} ({ITSELF}) (meaning) × (meaning) }}", "more than one term"),
+    (LENT + f" ensures {{ {ITSELF} ≡ meaning (d).new }}", "memory at exit"),
+    (LENT + f" ensures {{ ◌≡◌ {{A = ⊤}} ({ITSELF}) (meaning) }}", "no equation of leaving"),
+    (LENT + f" ensures {{ {ITSELF} ≡ meaning) × (meaning }}", "more than one term"),
     ("(d: &mut [u8], e: &mut [u8]) ensures { d.new ≡ meaning }", "all that is lent"),
-    ("(&mut self) -> u8 ensures { result ≡ meaning }", "no equation of record"),
+    ("(&mut self) -> u8 ensures { result ≡ meaning }", "no equation of leaving"),
 ]
 SETTLED = [
     ONE + " ensures { result ≡ meaning s.now }",
     "(v: &mut [f64; 3]) ensures { v.new ≡ meaning }",
     LENT + f" ensures {{ {ITSELF} ≡ meaning }}",
-    LENT + f" ensures {{ ◌≡◌ {{A = Outcome u8}} ({ITSELF}) (meaning s.now) }}",
     LENT + " ensures { told result d.new ≡ meaning d.old }",
     "(d: &mut [u8], v: &mut [u64; 1]) -> u8 ensures { shown result v.new d.new ≡ meaning }",
 ]
 ASKS = " requires { 1 ≡ 0 } ensures { result ≡ meaning s.now }"
 # faults planted in copies of source files: file, what stands there, what is planted, the function that is then open
 PLANTED = [
-    ("frame/src/lib.rt", "(reading_of f s.now out.old)", "(leaving result out.new)", "frame::read"),
+    ("frame/src/lib.rt", "reading_of f s.now out.old", "leaving result out.new", "frame::read"),
     ("crc/src/lib.rt", "result ≡ check_of s.now", "1 ≡ 0 → result ≡ check_of s.now", "crc::check"),
     ("header/src/access.rt", "{ result ≡ access_of cc }", "{ result ≡ bit_xor 0 result }", "header::announced"),
     ("kusikhut_c/src/crc_calls.rt", "ensures { result ≡", "requires { 1 ≡ 0 }\n    ensures { result ≡",
      "kusikhut_c::kusikhut_check"),
+    ("frame/src/lib.rt", "result ≡ size_for format l }", "result ≡ size_for format result }", "frame::FormatA::frame_size"),
     ("channels/src/plan.rt", "specs.Plan.{float, row_of,", "specs.Made.{float, row_of,", "channels::row_at"),
 ]
 # what is planted in an exported function alone, so that it is kusikhut's no longer
@@ -244,7 +254,8 @@ def self_test():
     wrong += ["a function of D23 may ask nothing"] if found(ONE + ASKS, "chips::word") else []
     for file, old, new, name in PLANTED:
         text = Path("crates", file).read_text(encoding="utf-8")
-        opened = {f.name for f in functions(file.split("/")[0], text.replace(old, new)) if faults(f)}
+        crate, planted = file.split("/")[0], text.replace(old, new)
+        opened = {f.name for f in [*functions(crate, planted), *trait_functions(crate, planted)] if faults(f)}
         if old not in text or name not in opened:
             wrong.append(f"planted in {file} and not found: {new}")
     ours = list(functions("kusikhut", Path("crates/kusikhut/src/crc_calls.rt").read_text(encoding="utf-8")))
@@ -265,6 +276,7 @@ def main():
         here = list(functions(path.parts[1], text))
         if len(here) != len(PUBLIC.findall(text)):
             wrong.append(f"{path}: a public function's head was not found; heads are read as rt fmt lays them out")
+        here += trait_functions(path.parts[1], text)
         met += here
         wrong += [f"{path}: {function.name}: {fault}" for function in here for fault in faults(function)]
     wrong += apart(met)

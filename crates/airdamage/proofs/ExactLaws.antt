@@ -3,6 +3,7 @@
 --     chip_burst      bits of bytes are counted as chips are
 --     chips_seen      the promise
 -- Assumes nothing.
+use Rattle.std.specs.Prelude.{Ok}
 use mathlib.Core.Bool.{Bool}
 use mathlib.Core.List.{List, [], ◌∷◌}
 use mathlib.Core.Logic.{◌↔◌}
@@ -22,8 +23,7 @@ use Rattle.blocks.specs.Spans.{size_of, cut, block_ok, first_wrong, payload}
 use Rattle.line.specs.Encoding.{encoding}
 use Rattle.line.proofs.TripLaws.{length-encoding}
 use Rattle.frame.specs.declared.Format.{Format}
-use Rattle.frame.specs.declared.Frame.{Frame}
-use Rattle.frame.specs.Formats.{frame_size}
+use Rattle.frame.specs.Formats.{sizes, frame_size}
 use Rattle.frame.specs.Frames.{frame_of, content_in, FrameAt}
 use Rattle.frame.specs.Judging.{by_checks, by_length, judge_of}
 use Rattle.frame.proofs.AcceptLaws.{judge_of-accepted, whole_frame}
@@ -66,7 +66,7 @@ module _ (k : Kind) (p c : List ℕ) (at : FrameAt (format_of k) p (length p) c)
       }
 
 sent_frame :
-    (k : Kind) (p : List ℕ) (n : ℕ) → judge_of (format_of k) p ≡ Frame.Accepted (length p) n → T (are_bytes p)
+    (k : Kind) (p : List ℕ) (n : ℕ) → judge_of (format_of k) p ≡ Ok (sizes (length p) n) → T (are_bytes p)
     → SentAt k (air_of k p) 0 (content_in (format_of k) n p)
 sent_frame k p n judged bytes =
     let f = format_of k in
@@ -105,7 +105,7 @@ chip_wider le b =
 -- Two frames of a kind, each alone in its chips, that differ within w chips: within more nothing is promised.
 module _
     (k : Kind) (skip n w first : ℕ) (old new : List ℕ)
-    (sent : judge_of (format_of k) old ≡ Frame.Accepted (length old) n) (bytes : T (are_bytes old))
+    (sent : judge_of (format_of k) old ≡ Ok (sizes (length old) n)) (bytes : T (are_bytes old))
     (count : length (air_of k new) ≡ length (air_of k old)) (differs : Flipped (air_of k old) (air_of k new) first)
     (all : T (all_below (passes w first (bits_of (air_of k old)) (bits_of (air_of k new))) (8 * length (air_of k old))))
     (low : 0 + lead_of k + skip ≤ first)
@@ -124,8 +124,8 @@ other_t =
     ∷ 0xAF ∷ 0x87 ∷ 0x1E ∷ 0x6D ∷ []
 
 judged_a :
-    (judge_of Format.A it.sent_a ≡ Frame.Accepted 20 15) × ((judge_of Format.A it.seventeen_a ≡ Frame.Accepted 20 15)
-    × (judge_of Format.A other_t ≡ Frame.Accepted 20 15))
+    (judge_of Format.A it.sent_a ≡ Ok (sizes 20 15)) × ((judge_of Format.A it.seventeen_a ≡ Ok (sizes 20 15))
+    × (judge_of Format.A other_t ≡ Ok (sizes 20 15)))
 unfolding judge_of by_length by_checks frame_size size_of cut first_wrong block_ok check_of reg_of byte_in bits_in
     bit_in
 judged_a = (refl, (refl, refl))
@@ -152,9 +152,9 @@ not_m =
     (sent_frame ManchesterWithA it.seventeen_a 15 judged_a.1.0 tt)
 
 judged_b :
-    (judge_of Format.B it.sent_b ≡ Frame.Accepted 23 20) × ((judge_of Format.B it.seventeen_b ≡ Frame.Accepted 23 20)
-    × ((judge_of Format.B it.sent_long ≡ Frame.Accepted 15 12)
-    × (judge_of Format.B (take 13 it.one_bit) ≡ Frame.Accepted 13 10)))
+    (judge_of Format.B it.sent_b ≡ Ok (sizes 23 20)) × ((judge_of Format.B it.seventeen_b ≡ Ok (sizes 23 20))
+    × ((judge_of Format.B it.sent_long ≡ Ok (sizes 15 12))
+    × (judge_of Format.B (take 13 it.one_bit) ≡ Ok (sizes 13 10))))
 unfolding judge_of by_length by_checks frame_size size_of cut first_wrong block_ok check_of reg_of byte_in bits_in
     bit_in
 judged_b = (refl, (refl, (refl, refl)))

@@ -7,6 +7,8 @@
 --     never_t .. never_b    what is always so of each kind
 --     not_received      and so no call receives such a frame there
 -- Assumes nothing.
+use Rattle.std.specs.Prelude.{Ok}
+use Rattle.radio.specs.Receiving.{reception}
 use mathlib.Core.List.{List, ◌++◌}
 use mathlib.Core.Logic.{inl, inr, ⊎_elim}
 use mathlib.Core.Path.{◌≡◌, refl, sym, ap, ap₂, ◌∙◌, subst}
@@ -42,10 +44,9 @@ use Rattle.sync.specs.declared.Kind.TheVariants.{TWithA, CWithA, CWithB, Manches
 use Rattle.sync.specs.Kinds.{lead_of}
 use Rattle.radio.specs.KindParts.{line_of, format_of}
 use Rattle.radio.specs.Sending.{sent_chips, SentAt}
-use Rattle.radio.specs.declared.Reception.{Reception}
 use Rattle.radio.specs.Heard.{receiving_of}
 use Rattle.radio.proofs.AirLaws.{coded_sent}
-use Rattle.radio.proofs.HeardLaws.{heard_exactly}
+use Rattle.radio.proofs.HeardLaws.{accepted_heard}
 use Rattle.airdamage.specs.ChipDamage.{Flipped, ChipBurst, NeverSent}
 use Rattle.airdamage.proofs.WordLaws.{unflipped}
 use Rattle.airdamage.proofs.ChipLaws.{bits_chips, nrz_chip, Differing, Together, Near, Narrows, narrows_manchester, narrows_nrz}
@@ -309,10 +310,7 @@ pub not_received :
     (k : Kind) (w skip : ℕ) → NeverSent k w skip → (s t : List ℕ) (place : ℕ) (c : List ℕ) → SentAt k s place c
     → ChipBurst w (place + lead_of k + skip) (place + sent_chips k (length c)) s t
     → (j : Kind) (start a : ℕ) (d : List ℕ) (tried z n : ℕ)
-    → (receiving_of j t start a d).answer ≡ Reception.Accepted k place tried z n → ⊥
+    → (receiving_of j t start a d).answer ≡ Ok (reception k place tried z n) → ⊥
 not_received k w skip never s t place c sent damage j start a d tried z n accepted =
-    let m = (receiving_of j t start a d).memory in
-    let outcome : receiving_of j t start a d ≡ record { answer = Reception.Accepted k place tried z n; memory = m } =
-    ap (λ (r : Reception). record { answer = r; memory = m }) accepted in
-    let heard = (heard_exactly t start a d j k place tried z n m).0 outcome in
-    never s t place c sent damage heard.0 heard.1.0.sent
+    let heard = accepted_heard t start a d j k place tried z n accepted in
+    never s t place c sent damage heard.0 heard.1.sent

@@ -4,7 +4,6 @@
 #![tactic(auto)]
 
 ghost use Rattle.std.specs.Prelude.{◌≡◌, ◌∷◌, ◌++◌, ◌+◌, ◌/◌, ◌%◌, ◌≤◌, ◌<◌, ◌^◌, length, take, drop, set};
-ghost use Rattle.std.proofs.Math.Seq.{paste};
 ghost use Rattle.blocks.specs.Places.{place_in, check_in, check_at, mended};
 ghost use Rattle.blocks.specs.Spans.{sealed, framed, payload, block_ok, first_wrong, size_of, spans};
 
@@ -75,14 +74,6 @@ fn put_span(c: &[u8], from: usize, k: usize, out: &mut [u8], at: usize)
     seal_at(out, at, k);
 }
 
-// k bytes of src from place `from`, copied to dst from place `at`.
-pub fn copy_part(src: &[u8], from: usize, k: usize, dst: &mut [u8], at: usize)
-    requires { (from + k ≤ length src.now) × (at + k ≤ length dst.old) }
-    ensures { dst.new ≡ paste dst.old at (drop from src.now) k }
-{
-    dst[at..at + k].copy_from_slice(&src[from..from + k]);
-}
-
 // Place `byte` becomes v, and the check at place `check` follows from the one that stood there: the bytes between the
 // changed one and the end of its span are counted, not read.
 fn mend(s: &mut [u8], byte: usize, check: usize, distance: usize, v: u8)
@@ -106,7 +97,7 @@ struct Spot {
 
 // Each loop takes a whole span in a turn, so none of them counts by one.
 impl Cut {
-    // The first wrong block among those of the t bytes that s begins with, counted from 1; None if all checks are right.
+    // The first wrong block among those of the t bytes that s begins with, counted from 1, if a check is wrong.
     pub fn first_wrong(self, s: &[u8], t: usize) -> Option<usize>
         requires { size_of (spans self.first self.later t) ≤ length s.now }
         ensures { result ≡ first_wrong 1 (spans self.first self.later t) s.now }

@@ -1,7 +1,6 @@
 -- The mode N channel plan as floats in kilohertz (document 01, "Mode N channels"; EN 13757-4:2019, Table 21).
 --     float q          the f64 nearest to q quarters of a kilohertz; ExactLaws shows that it is exact
 --     row_of i          the row of index i: first centre, spacing, tolerance; three zeros where there is none (D50)
---     entry_as_floats i    the row's three numbers, and how many channels it has
 --     centre_of i c     the centre of channel c of index i, or that there is no such channel
 -- Assumes nothing.
 use Rattle.std.specs.Prelude.{false, cond, ℕ, ltb, Float, Option, Some, None}
@@ -20,9 +19,6 @@ row_of i =
       spacing = float (entry_of i).spacing;
       tolerance = float (entry_of i).tolerance;
     }
-
-abbrev pub entry_as_floats : ℕ → Float × Float × Float × ℕ
-entry_as_floats i = ((row_of i).centre, (row_of i).spacing, (row_of i).tolerance, channels_of i)
 
 abbrev pub centre_of : ℕ → ℕ → Option Float
 centre_of i c = cond (ltb c (channels_of i)) (Some (float (quarters_of i c))) None

@@ -1,12 +1,13 @@
 // The mode N channel plan: rows and centres (EN 13757-4:2019, 10.2, Table 21; document 01, "Mode N channels").
 ghost use Rattle.std.specs.Prelude.{◌≡◌, ◌<◌, ◌*◌};
 ghost use Rattle.channels.specs.Table21.{channels_of, quarters_of};
-ghost use Rattle.channels.specs.Plan.{float, row_of, entry_as_floats, centre_of};
+ghost use Rattle.channels.specs.Inner.{entry_as_floats};
+ghost use Rattle.channels.specs.Plan.{float, row_of, centre_of};
 
 use crate::table21::TABLE;
 
 // A row of Table 21, in kilohertz: the first centre, the channel spacing, the frequency tolerance.
-#[derive(Clone, Copy)]
+#[derive(Clone, Copy, Debug, PartialEq)]
 pub struct Row {
     pub centre: f64,
     pub spacing: f64,

@@ -11,18 +11,14 @@ use mathlib.Core.List.{List}
 use Prim.Native.Nat.{ℕ, ◌+◌}
 use lib.Dec.{ltb}
 use borrow.Author.Tests.{ltb-false}
+use Rattle.std.specs.Prelude.{Option, Some, None, Result, Err}
+use Rattle.answers.specs.declared.Refusal.{Refusal}
 use Rattle.answers.specs.declared.Refusal.TheVariants.{Short, OutOfRange}
 use Rattle.chips.proofs.RangeLaws.{InBuffer, in_range_inside, in_range_true}
 use Rattle.chips.specs.Chips.{word_at, chip_count, in_range}
 use Rattle.ground.proofs.CaseLaws.{zero_not_one}
 use Rattle.line.specs.Codes.{LineCode, word_value}
 use Rattle.line.specs.OneWord.{word_for, word_read}
-use Rattle.line.specs.declared.codes.Value.{Value}
-use Rattle.line.specs.declared.codes.Value.TheVariants.{Is, NoWord}
-use Rattle.line.specs.declared.words.Word.{Word}
-use Rattle.line.specs.declared.words.Word.TheVariants.{Refused}
-use Rattle.chipreader.specs.declared.Answer.TheVariants as answer
-use Rattle.chipreader.specs.declared.Answer.TheVariants.{Ready}
 use Rattle.chipreader.specs.declared.Place.{Place}
 use Rattle.chipreader.specs.Steps.{start_of, is_closed, place_after, step_of}
 
@@ -31,7 +27,7 @@ module _ (κ : LineCode) (s : List ℕ) (p : Place) where
   unfolding step_of
   step_of_closed h = rw h
 
-  pub step_of_word : {w : Word} → is_closed p.answer ≡ false → w ≡ word_read κ s p.at
+  pub step_of_word : {w : Result ℕ Refusal} → is_closed p.answer ≡ false → w ≡ word_read κ s p.at
       → place_after κ p.at w ≡ step_of κ s p
   unfolding step_of
   step_of_word h e = rw (h, ← e)
@@ -42,8 +38,8 @@ pub record Open (s : List ℕ) (p : Place) : Type 0 where
 
 -- what the test of the start leaves
 started : (s : List ℕ) (at : ℕ) (t : Bool) → in_range s at ≡ t
-    → let start : Place = record { at = at; answer = Ready } in
-    let p : Place = cond t start (record { at = 0; answer = answer.Refused OutOfRange }) in
+    → let start : Place = record { at = at; answer = None } in
+    let p : Place = cond t start (record { at = 0; answer = Some (Err OutOfRange) }) in
     is_closed p.answer ≡ false → Open s p
 started s at true e h = record { within = in_range_true e; ready = refl }
 started s at false e h = absurd (zero_not_one (cc))
@@ -53,19 +49,19 @@ unfolding start_of
 start_of_open s at h = started s at (in_range s at) refl h
 
 -- what stands behind the test that refuses with 10
-place_after_open : {s : List ℕ} {at : ℕ} (κ : LineCode) (t : Bool) (v : Value) → InBuffer s at
-    → ltb (chip_count s) (at + κ.chips) ≡ t → Open s (place_after κ at (cond t (Refused Short) (word_for v)))
+place_after_open : {s : List ℕ} {at : ℕ} (κ : LineCode) (t : Bool) (v : Option ℕ) → InBuffer s at
+    → ltb (chip_count s) (at + κ.chips) ≡ t → Open s (place_after κ at (cond t (Err Short) (word_for v)))
 place_after_open κ true v b e = record { within = b; ready = refl }
-place_after_open {s} {at} κ false (Is x) b e =
+place_after_open {s} {at} κ false (Some x) b e =
     record {
       within = record { small = b.small; inside = ltb-false (chip_count s) (at + κ.chips) e };
       ready = refl;
     }
-place_after_open κ false NoWord b e = record { within = b; ready = refl }
+place_after_open κ false None b e = record { within = b; ready = refl }
 
 pub step_of_open : (κ : LineCode) (s : List ℕ) (p : Place) → Open s p → Open s (step_of κ s p)
 unfolding step_of word_read
 step_of_open κ s p o =
-    let v : Value = word_value κ (word_at s p.at κ.chips) in
+    let v : Option ℕ = word_value κ (word_at s p.at κ.chips) in
     rw (o.ready, in_range_inside o.within)
     (place_after_open κ (ltb (chip_count s) (p.at + κ.chips)) v o.within refl)

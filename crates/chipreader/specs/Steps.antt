@@ -6,32 +6,29 @@
 --     reader_at s p     the reader that keeps the lent chips s and the place p
 --     reader_after κ r  the reader r after one word of the code κ: the chips stay lent, the place moves on or stays
 -- Assumes nothing.
-use Rattle.std.specs.Prelude.{Bool, false, cond, List, ℕ, ◌+◌, eqb}
+use Rattle.std.specs.Prelude.{Bool, false, cond, List, ℕ, ◌+◌, eqb, Option, Some, None, Result, Ok, Err}
 use Rattle.std.specs.Borrow.{Bor}
 use Rattle.answers.specs.Refusals.{number_of}
+use Rattle.answers.specs.declared.Refusal.{Refusal}
 use Rattle.answers.specs.declared.Refusal.TheVariants.{OutOfRange}
 use Rattle.chips.specs.Chips.{in_range}
 use Rattle.line.specs.Codes.{LineCode}
 use Rattle.line.specs.OneWord.{word_read}
-use Rattle.line.specs.declared.words.Word.{Word}
-use Rattle.line.specs.declared.words.Word.TheVariants as word
-use Rattle.chipreader.specs.declared.Answer.{Answer}
-use Rattle.chipreader.specs.declared.Answer.TheVariants.{Ready, Accepted, Refused}
 use Rattle.chipreader.specs.declared.Place.{Place}
 use Rattle.chipreader.specs.declared.ChipReader.{ChipReader}
 
 unfoldable pub start_of : List ℕ → ℕ → Place
 start_of s at =
-    cond (in_range s at) (record { at = at; answer = Ready }) (record { at = 0; answer = Refused OutOfRange })
+    cond (in_range s at) (record { at = at; answer = None }) (record { at = 0; answer = Some (Err OutOfRange) })
 
-abbrev pub place_after : LineCode → ℕ → Word → Place
-place_after κ at (word.Accepted x) = record { at = at + κ.chips; answer = Accepted x }
-place_after κ at (word.Refused r) = record { at = at; answer = Refused r }
+abbrev pub place_after : LineCode → ℕ → Result ℕ Refusal → Place
+place_after κ at (Ok x) = record { at = at + κ.chips; answer = Some (Ok x) }
+place_after κ at (Err r) = record { at = at; answer = Some (Err r) }
 
-abbrev pub is_closed : Answer → Bool
-is_closed Ready = false
-is_closed (Accepted x) = false
-is_closed (Refused r) = eqb (number_of r) 10
+abbrev pub is_closed : Option (Result ℕ Refusal) → Bool
+is_closed None = false
+is_closed (Some (Ok x)) = false
+is_closed (Some (Err r)) = eqb (number_of r) 10
 
 unfoldable pub step_of : LineCode → List ℕ → Place → Place
 step_of κ s p = cond (is_closed p.answer) p (place_after κ p.at (word_read κ s p.at))

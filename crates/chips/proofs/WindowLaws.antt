@@ -1,9 +1,10 @@
 -- Whole bytes of chips as one number, and the words that stand in them (specs/Chips).
---     word_at_lt, -lt-pow    a word of w chips is below 2 ^ w, and below 2 ^ k where w is at most k
+--     word_at_lt             a word of w chips is below 2 ^ w
 --     word_at_behind         behind the end every chip is 0
 --     word_at_byte           the eight chips of the byte at q make that byte
 --     word_at_grow           n whole bytes grow by the byte behind them
 --     word_at_four           32 chips are four bytes, first byte highest
+--     word_at_rest           64 chips of which only the bytes from q on are there, with zeros behind them
 --     word_at_halves         64 chips are 32 and 32
 --     word_at_end            64 chips of which only n bytes are there
 --     word_at_high           the first 32 of 64 chips
@@ -12,23 +13,24 @@
 --     word_at_narrow         the same for at most nine chips, out of the bytes of the first and of the last of them
 use mathlib.Core.Bool.{Bool, true, false}
 use mathlib.Core.Path.{◌≡◌, refl, ap, sym, ◌∙◌}
-use mathlib.Core.List.{List}
-use Prim.Native.Nat.{ℕ, ◌+◌, ◌*◌, ◌-◌, ◌/◌, ◌%◌, ◌^◌, ◌≤◌, ◌<◌}
-use native.Mathlib.Nat.{zero-div, mod-eq_of_lt, lt_of_lt_of_le}
+use mathlib.Core.List.{List, [], ◌∷◌}
+use Prim.Native.Nat.{ℕ, zero, suc, ◌+◌, ◌*◌, ◌-◌, ◌/◌, ◌%◌, ◌^◌, ◌≤◌, ◌<◌}
+use native.Mathlib.Nat.{zero-div, mod-eq_of_lt}
 use native.Mathlib.Omega.{arith}
 use borrow.Author.Tests.{ltb-true, ltb-false}
 use lib.Dec.{ltb}
 use lib.ListN.{length, get_or, get_or-eq_default}
-use lib.Pow.{field, pow_mono, shl-shr, shr-shr}
-use Rattle.chips.specs.Chips.{word_at, chip_at}
+use lib.Pow.{field, shl-shr, shr-shr}
+use Rattle.std.proofs.Common.{Fits, w8, w32, w64, take, drop, ◌++◌, replicate, length-drop}
+use Rattle.std.proofs.Math.Seq.{take-length}
+use Rattle.std.proofs.lemmas.List.{get_or_append_left, get_or-append_right, get_or-drop}
+use Rattle.std.specs.Int.{from_be_bytes}
+use Rattle.chips.specs.Chips.{gather, word_at, chip_at}
 use Rattle.chips.proofs.GatherLaws.{gather-add, gather-lt, gather_within, chip_at-lt}
 use Rattle.chips.proofs.PackingLaws.{gather_none, gather_spread}
 
 pub word_at_lt : (s : List ℕ) (at w : ℕ) → word_at s at w < 2 ^ w
 word_at_lt s at w = gather-lt (chip_at s) (chip_at-lt s) at w
-
-pub word_at_lt_pow : (s : List ℕ) (at w k : ℕ) → w ≤ k → word_at s at w < 2 ^ k
-word_at_lt_pow s at w k h = lt_of_lt_of_le (word_at_lt s at w) (pow_mono {i = w} {j = k} h)
 
 pub word_at_behind : (s : List ℕ) (at w : ℕ) → 8 * length s ≤ at → word_at s at w ≡ 0
 word_at_behind s at w h =
@@ -39,6 +41,11 @@ word_at_byte s q h =
     let place : 8 * q ≡ q * 8 = omega arith in
     rw place (gather_spread (λ i. get_or s i 0) 8 q h)
 
+get_or-zeros : (n k : ℕ) → ◌≡◌ {A = ℕ} (get_or (replicate n 0) k 0) 0
+get_or-zeros zero k = refl
+get_or-zeros (suc n) zero = refl
+get_or-zeros (suc n) (suc k) = get_or-zeros n k
+
 module _ (s : List ℕ) (q : ℕ) where
   pub word_at_grow : (n : ℕ) → get_or s (q + n) 0 < 256
       → word_at s (8 * q) (8 * (n + 1)) ≡ word_at s (8 * q) (8 * n) * 256 + get_or s (q + n) 0
@@ -47,14 +54,54 @@ module _ (s : List ℕ) (q : ℕ) where
       let place : 8 * q + 8 * n ≡ 8 * (q + n) = omega arith in
       rw (chips, gather-add (chip_at s) (8 * q) (8 * n) 8, place, word_at_byte s (q + n) h)
 
-  pub word_at_four : {a b c d : ℕ} → (a ≡ get_or s q 0) × (a < 256) → (b ≡ get_or s (q + 1) 0) × (b < 256)
-      → (c ≡ get_or s (q + 2) 0) × (c < 256) → (d ≡ get_or s (q + 3) 0) × (d < 256)
-      → ((a * 256 + b) * 256 + c) * 256 + d ≡ word_at s (8 * q) 32
-  word_at_four ha hb hc hd =
-      let one = word_at_byte s q (omega arith) in
-      let two = word_at_grow 1 (omega arith) in
-      let three = word_at_grow 2 (omega arith) in
-      omega (arith, word_at_grow 3 (omega arith))
+  module _ (byte : (k : ℕ) → Fits w8 (get_or s k 0)) where
+    pub word_at_four :
+        from_be_bytes w32 (get_or s q 0 ∷ get_or s (q + 1) 0 ∷ get_or s (q + 2) 0 ∷ get_or s (q + 3) 0 ∷ [])
+        ≡ word_at s (8 * q) 32
+    word_at_four =
+        let one = word_at_byte s q (omega (arith, byte q)) in
+        let two = word_at_grow 1 (omega (arith, byte (q + 1))) in
+        let three = word_at_grow 2 (omega (arith, byte (q + 2))) in
+        omega (arith, word_at_grow 3 (omega (arith, byte (q + 3))))
+
+    grow : (n : ℕ) → word_at s (8 * q) (8 * (n + 1)) ≡ word_at s (8 * q) (8 * n) * 256 + get_or s (q + n) 0
+    grow n = word_at_grow n (omega (arith, byte (q + n)))
+
+    -- bs are the eight bytes from q on
+    word_at_eight : (bs : List ℕ) → ((i : ℕ) → get_or bs i 0 ≡ get_or s (q + i) 0)
+        → from_be_bytes w64 bs ≡ word_at s (8 * q) 64
+    unfolding gather
+    word_at_eight bs same =
+        let front : word_at s (8 * q) 32
+        ≡ ((get_or bs 0 0 * 256 + get_or bs 1 0) * 256 + get_or bs 2 0) * 256 + get_or bs 3 0
+        = omega (arith, grow 0, grow 1, grow 2, grow 3, same 0, same 1, same 2, same 3) in
+        omega (arith, front, grow 4, grow 5, grow 6, grow 7, same 4, same 5, same 6, same 7)
+
+    -- byte i of those from q on, with zeros behind them
+    get_or_rest : (i : ℕ) (zeros : List ℕ) → q ≤ length s → ((k : ℕ) → get_or zeros k 0 ≡ 0)
+        → get_or (drop q s ++ drop (length (drop q s)) zeros) i 0 ≡ get_or s (q + i) 0
+    get_or_rest i zeros le none = by (ltb i (length (drop q s))) refl where
+      rest : List ℕ
+      rest = drop q s
+
+      by : (t : Bool) → ltb i (length rest) ≡ t → get_or (rest ++ drop (length rest) zeros) i 0 ≡ get_or s (q + i) 0
+      by true e =
+          get_or_append_left rest (drop (length rest) zeros) 0 i (ltb-true i (length rest) e) ∙ get_or-drop q s i 0
+      by false e =
+          let past : length rest ≤ i = ltb-false i (length rest) e in
+          let size : length rest ≡ length s - q = length-drop q s in
+          get_or-append_right rest (drop (length rest) zeros) (length rest) i 0 refl past
+          ∙ (get_or-drop (length rest) zeros (i - length rest) 0
+          ∙ (none (length rest + (i - length rest)) ∙ sym (get_or-eq_default s 0 {n = q + i} (omega arith))))
+
+    pub word_at_rest : {ys : List ℕ} → q ≤ length s → ys ≡ take (length s - q) (drop q s)
+        → from_be_bytes w64 (ys ++ drop (length (take (length s - q) (drop q s))) (replicate 8 0))
+        ≡ word_at s (8 * q) 64
+    word_at_rest {ys} le e =
+        let whole : take (length s - q) (drop q s) ≡ drop q s = rw length-drop at (take-length (drop q s)) in
+        let zeros : List ℕ = replicate 8 0 in
+        rw (e, whole) (word_at_eight (drop q s ++ drop (length (drop q s)) zeros)
+        (λ i. get_or_rest i zeros le (get_or-zeros 8)))
 
   pub word_at_halves : word_at s (8 * q) 32 * 4294967296 + word_at s (8 * (q + 4)) 32 ≡ word_at s (8 * q) 64
   word_at_halves =

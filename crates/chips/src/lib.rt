@@ -11,17 +11,7 @@ pub const LIMIT: usize = 1024;
 pub fn in_range(s: &[u8], at: usize) -> bool
     ensures { result ≡ in_range s.now at }
 {
-    if s.len() > LIMIT {
-        return false;
-    }
-    at <= s.len() * 8
-}
-
-// A byte as a wider number.
-pub fn wide(b: u8) -> usize
-    ensures { (result ≡ b) × (result < 256) }
-{
-    b as usize
+    s.len() <= LIMIT && at <= 8 * s.len()
 }
 
 // The 32 chips of the four bytes from q on.
@@ -29,22 +19,18 @@ fn four(s: &[u8], q: usize) -> usize
     requires { q + 4 ≤ length s.now }
     ensures { (result ≡ word_at s.now (8 * q) 32) × (result < 4294967296) }
 {
-    ((wide(s[q]) * 256 + wide(s[q + 1])) * 256 + wide(s[q + 2])) * 256 + wide(s[q + 3])
+    u32::from_be_bytes([s[q], s[q + 1], s[q + 2], s[q + 3]]) as usize
 }
 
-// The same 64 chips where fewer than eight bytes are left: those, and 0 behind them.
+// The 64 chips from byte q on where fewer than eight bytes are left: those, and 0 behind them.
 fn last(s: &[u8], q: usize) -> usize
     requires { (q < length s.now) × (length s.now < q + 8) }
     ensures { result ≡ word_at s.now (8 * q) 64 }
 {
-    let n = s.len() - q;
-    let mut x: usize = 0;
-    let mut i: usize = 0;
-    while i < n {
-        x = x * 256 + wide(s[q + i]);
-        i += 1;
-    }
-    x << ((64 - 8 * n) as u32)
+    let rest = &s[q..];
+    let mut bytes = [0u8; 8];
+    bytes[..rest.len()].copy_from_slice(rest);
+    usize::from_be_bytes(bytes)
 }
 
 // The 64 chips from byte q on as one number, first chip highest; behind the end every chip is 0.
@@ -57,7 +43,7 @@ pub fn window(s: &[u8], q: usize) -> usize
     if s.len() - q < 8 {
         return last(s, q);
     }
-    four(s, q) * 4294967296 + four(s, q + 4)
+    (four(s, q) << 32) + four(s, q + 4)
 }
 
 // Half a window: the 32 chips from byte q on. Where few chips are wanted the compiler keeps four bytes one load; of
@@ -69,7 +55,7 @@ pub fn half(s: &[u8], q: usize) -> usize
         return 0;
     }
     if s.len() - q < 4 {
-        return last(s, q) / 4294967296;
+        return last(s, q) >> 32;
     }
     four(s, q)
 }
@@ -79,7 +65,7 @@ pub fn word(s: &[u8], at: usize, w: usize) -> usize
     requires { (1 ≤ w) × (w ≤ 57) }
     ensures { result ≡ word_at s.now at w }
 {
-    (window(s, at / 8) << ((at % 8) as u32)) >> ((64 - w) as u32)
+    (window(s, at / 8) << (at % 8)) >> (64 - w)
 }
 
 // The same for at most nine chips that are all there. They lie in the byte of the first of them and in that of the
@@ -88,6 +74,6 @@ pub fn narrow(s: &[u8], at: usize, w: usize) -> usize
     requires { ((1 ≤ w) × (w ≤ 9)) × ((length s.now ≤ room_limit) × (at + w ≤ chip_count s.now)) }
     ensures { result ≡ word_at s.now at w }
 {
-    let two = wide(s[at / 8]) * 256 + wide(s[(at + w - 1) / 8]);
-    ((two << ((at % 8) as u32)) % 65536) >> ((16 - w) as u32)
+    let two = u16::from_be_bytes([s[at / 8], s[(at + w - 1) / 8]]);
+    usize::from((two << (at % 8)) >> (16 - w))
 }

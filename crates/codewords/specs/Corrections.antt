@@ -7,17 +7,15 @@
 --     checking_of w d      the check bytes alone, of any bytes: TooLong, NoRoom; else 32 bytes from d's first byte on
 --     bit_of i h           the bit i of the ID in the header h: what two or three of its copies say
 --     id_of h              the ID in the header h; bit 15 is not looked at
---     announced_of s       what the two bytes at the start of s announce: Short if they are not there, UnknownCode if
---                         the ID is not 1
+--     announced_of s       what the two bytes at the start of s announce: Reed-Solomon, the one code there is, or Short
+--                         if they are not there, UnknownCode if the ID is not 1
 -- A refusal leaves d as it was.
-use Rattle.std.specs.Prelude.{cond, List, [], ◌∷◌, ◌++◌, ℕ, ◌+◌, ◌*◌, ◌/◌, ◌%◌, ◌^◌, ltb, eqb, length, take, drop}
+use Rattle.std.specs.Prelude.{cond, Result, Ok, Err, ⊤, List, [], ◌∷◌, ◌++◌, ℕ, ◌+◌, ◌*◌, ◌/◌, ◌%◌, ◌^◌, ltb, eqb, length, take, drop}
 use Rattle.answers.specs.Outcome.{Outcome, leaving}
 use Rattle.answers.specs.declared.Refusal.{Refusal}
-use Rattle.answers.specs.declared.Written.{Written}
 use Rattle.frame.specs.declared.Format.{Format}
 use Rattle.frame.specs.declared.Frame.{Frame}
 use Rattle.frame.specs.Judging.{judge_of}
-use Rattle.codewords.specs.declared.Announced.{Announced}
 use Rattle.codewords.specs.CheckBytes.{checks_of}
 
 abbrev pub header_of : ℕ → List ℕ
@@ -26,25 +24,25 @@ header_of id = let h = id + id * 32 + id * 1024 in h % 256 ∷ h / 256 ∷ []
 abbrev pub corrected : List ℕ → List ℕ
 corrected w = w ++ (header_of 1 ++ checks_of w)
 
-unfoldable pub put_corrected : List ℕ → List ℕ → Frame → Outcome Written
-put_corrected s d (Frame.Accepted z n) =
-    cond (ltb 223 z)
-    (leaving (Written.Refused Refusal.TooLong) d)
-    (cond (ltb (length d) (z + 34))
-    (leaving (Written.Refused Refusal.NoRoom) d)
-    (record { answer = Written.Accepted (z + 34); memory = corrected (take z s) ++ drop (z + 34) d }))
-put_corrected s d (Frame.Refused r) = leaving (Written.Refused r) d
+unfoldable pub put_corrected : List ℕ → List ℕ → Result Frame Refusal → Outcome (Result ℕ Refusal)
+put_corrected s d (Ok a) =
+    cond (ltb 223 a.size)
+    (leaving (Err Refusal.TooLong) d)
+    (cond (ltb (length d) (a.size + 34))
+    (leaving (Err Refusal.NoRoom) d)
+    (leaving (Ok (a.size + 34)) (corrected (take a.size s) ++ drop (a.size + 34) d)))
+put_corrected s d (Err r) = leaving (Err r) d
 
-unfoldable pub correcting_of : Format → List ℕ → List ℕ → Outcome Written
+unfoldable pub correcting_of : Format → List ℕ → List ℕ → Outcome (Result ℕ Refusal)
 correcting_of f s d = put_corrected s d (judge_of f s)
 
-unfoldable pub checking_of : List ℕ → List ℕ → Outcome Written
+unfoldable pub checking_of : List ℕ → List ℕ → Outcome (Result ℕ Refusal)
 checking_of w d =
     cond (ltb 223 (length w))
-    (leaving (Written.Refused Refusal.TooLong) d)
+    (leaving (Err Refusal.TooLong) d)
     (cond (ltb (length d) 32)
-    (leaving (Written.Refused Refusal.NoRoom) d)
-    (record { answer = Written.Accepted 32; memory = checks_of w ++ drop 32 d }))
+    (leaving (Err Refusal.NoRoom) d)
+    (leaving (Ok 32) (checks_of w ++ drop 32 d)))
 
 unfoldable pub bit_of : ℕ → ℕ → ℕ
 bit_of i h = (h / 2 ^ i % 2 + h / 2 ^ (i + 5) % 2 + h / 2 ^ (i + 10) % 2) / 2
@@ -52,8 +50,8 @@ bit_of i h = (h / 2 ^ i % 2 + h / 2 ^ (i + 5) % 2 + h / 2 ^ (i + 10) % 2) / 2
 abbrev pub id_of : ℕ → ℕ
 id_of h = bit_of 0 h + 2 * bit_of 1 h + 4 * bit_of 2 h + 8 * bit_of 3 h + 16 * bit_of 4 h
 
-unfoldable pub announced_of : List ℕ → Announced
-announced_of [] = Announced.Refused Refusal.Short
-announced_of (l ∷ []) = Announced.Refused Refusal.Short
+unfoldable pub announced_of : List ℕ → Result ⊤ Refusal
+announced_of [] = Err Refusal.Short
+announced_of (l ∷ []) = Err Refusal.Short
 announced_of (l ∷ h ∷ s) =
-    cond (eqb (id_of (l + 256 * h)) 1) Announced.ReedSolomon (Announced.Refused Refusal.UnknownCode)
+    cond (eqb (id_of (l + 256 * h)) 1) (Ok tt) (Err Refusal.UnknownCode)

@@ -12,7 +12,7 @@ use native.Mathlib.Nat.{zero-add}
 use native.Mathlib.Omega.{arith}
 use lib.Bits.{bit_xor, xor_shifted, xor_zero_r}
 use lib.Dec.{T}
-use lib.ListN.{length, replicate}
+use lib.ListN.{replicate}
 use Rattle.ground.specs.Sums.{xors}
 use Rattle.ground.proofs.TableLaws.{all_below, all_below_at, passed}
 use Rattle.address.specs.Names.{same_bytes}
@@ -24,17 +24,16 @@ use Rattle.correction.specs.declared.division.Remainder.{Remainder}
 use Rattle.correction.specs.Inner.{bytes_of, row_at, half, RowsOk}
 
 -- row h of the sixteen for halves k
-unfoldable pub right : List ℕ → ℕ → ℕ → Bool
+unfoldable pub right : List (List ℕ) → ℕ → ℕ → Bool
 right rows k h = same_bytes (bytes_of (row_at rows (16 * k + h))) (rem_of numbers (replicate 32 0) (half k h))
 
-abbrev pub all_right : List ℕ → Bool
+abbrev pub all_right : List (List ℕ) → Bool
 all_right rows = all_below (λ k. all_below (right rows k) 16) 4
 
-pub rows_right : (rows : List ℕ) → length rows ≡ 256 → T (all_right rows) → RowsOk rows
+pub rows_right : (rows : List (List ℕ)) → T (all_right rows) → RowsOk rows
 unfolding right
-rows_right rows e t =
+rows_right rows t =
     record {
-      size = e;
       row = λ k h hk hh.
           same_bytes_equal (bytes_of (row_at rows (16 * k + h))) (rem_of numbers (replicate 32 0) (half k h))
           (passed _ (all_below_at (right rows k) 16 (all_below_at (λ j. all_below (right rows j) 16) 4 t k hk) h hh))
@@ -59,7 +58,7 @@ checks_halves p q =
 
 -- ---- what the code sums up
 
-module _ (rows : List ℕ) (ok : RowsOk rows) (p q : ℕ) (hp : p < 256) (hq : q < 256) where
+module _ (rows : List (List ℕ)) (ok : RowsOk rows) (p q : ℕ) (hp : p < 256) (hq : q < 256) where
   row_half : (k h : ℕ) {r : Remainder} → k < 4 → h < 16 → r ≡ row_at rows (16 * k + h)
       → bytes_of r ≡ checks_of (half k h)
   row_half k h hk hh e = ap bytes_of e ∙ ok.row k h hk hh

@@ -1,7 +1,7 @@
 -- A remainder as four words and as 32 bytes.
 --     bytes_of_xor    the words' sums are the bytes' sums
 --     bytes_of_up     each word moved up by sixteen bits, the next one's upper sixteen below it: all bytes up by two
---     word_fits      such a word fits its 64 bits
+--     bytes_put       the four words' bytes, stored one behind another
 -- Assumes nothing.
 use mathlib.Core.Path.{◌≡◌, refl, sym, ap, ap₂, ◌∙◌}
 use mathlib.Core.List.{List, [], ◌∷◌, ◌++◌}
@@ -9,10 +9,13 @@ use Prim.Native.Nat.{ℕ, ◌+◌, ◌*◌, ◌/◌, ◌%◌, ◌^◌, ◌<◌}
 use native.Mathlib.Nat.{add-zero}
 use native.Mathlib.Omega.{arith}
 use lib.Bits.{bit_xor, xor_shr, xor_mod}
-use lib.ListN.{drop, take}
+use borrow.Rule.Slice.PartMut.{put_mid}
+use lib.ListN.{drop, take, replicate}
+use Rattle.std.specs.Int.{w64, to_be_bytes}
 use Rattle.ground.specs.Sums.{xors}
 use Rattle.ground.proofs.SumLaws.{cons}
 use Rattle.address.specs.Keys.{four_bytes, key_bytes}
+use Rattle.address.proofs.StoreLaws.{high_first}
 use Rattle.correction.specs.declared.division.Remainder.{Remainder}
 use Rattle.correction.specs.Inner.{bytes_of}
 
@@ -60,9 +63,6 @@ shifted u = omega arith
 
 low_part : (u : ℕ) → u % 281474976710656 < 281474976710656
 low_part u = omega arith
-
-pub word_fits : (u v : ℕ) → v < 18446744073709551616 → up_of u v < 18446744073709551616
-word_fits u v h = rw (shifted u) (omega arith)
 
 -- six bytes and two
 six : ℕ → List ℕ
@@ -113,3 +113,11 @@ pub bytes_of_up : (m : Remainder)
 bytes_of_up m hb hc hd =
     joined (key_bytes_up m.a m.b hb)
     (joined (key_bytes_up m.b m.c hc) (joined (key_bytes_up m.c m.d hd) (key_bytes_last m.d)))
+
+-- ---- stored
+
+pub bytes_put : (m : Remainder) {a b c d : List ℕ}
+    → a ≡ to_be_bytes w64 m.a → b ≡ to_be_bytes w64 m.b → c ≡ to_be_bytes w64 m.c → d ≡ to_be_bytes w64 m.d
+    → put_mid 24 8 (put_mid 16 8 (put_mid 8 8 (a ++ replicate 24 0) b) c) d ≡ bytes_of m
+bytes_put m ea eb ec ed =
+    rw (ea ∙ high_first m.a, eb ∙ high_first m.b, ec ∙ high_first m.c, ed ∙ high_first m.d) refl

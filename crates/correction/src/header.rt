@@ -3,9 +3,9 @@ ghost use Rattle.std.specs.Prelude.{◌≡◌, ◌<◌};
 ghost use Rattle.codewords.specs.Corrections.{bit_of, id_of, announced_of};
 
 use answers::Refusal;
-use codewords::Announced;
 
 // Bit i of the ID: what two or three of its copies say.
+#[tactic(auto, unfolding(codewords::specs::Corrections::bit_of))]
 fn bit(h: u16, i: u32) -> u16
     requires { i < 5 }
     ensures { (result ≡ bit_of i h) × (result < 2) }
@@ -20,15 +20,15 @@ fn id(h: u16) -> u16
     bit(h, 0) + 2 * bit(h, 1) + 4 * bit(h, 2) + 8 * bit(h, 3) + 16 * bit(h, 4)
 }
 
-// What the header at the start of s announces; s may be longer.
-pub fn announced(s: &[u8]) -> Announced
+// Whether the header at the start of s announces Reed-Solomon (255, 223), the one code there is; s may be longer.
+pub fn announced(s: &[u8]) -> Result<(), Refusal>
     ensures { result ≡ announced_of s.now }
 {
-    if s.len() < 2 {
-        return Announced::Refused(Refusal::Short);
+    let [low, high, ..] = s else {
+        return Err(Refusal::Short);
+    };
+    if id(u16::from_le_bytes([*low, *high])) != 1 {
+        return Err(Refusal::UnknownCode);
     }
-    if id(address::two_at(s, 0)) != 1 {
-        return Announced::Refused(Refusal::UnknownCode);
-    }
-    Announced::ReedSolomon
+    Ok(())
 }

@@ -177,7 +177,8 @@ module _ (c old k : ℕ) (h : c < 65536) where
         is = check_of_span;
       }
 
-pub mends-settled : (c old new k : ℕ) (r s : Result ℕ Refusal) → c < 65536 → Mends c old new k r → Mends c old new k s → r ≡ s
+pub mends-settled :
+    (c old new k : ℕ) (r s : Result ℕ Refusal) → c < 65536 → Mends c old new k r → Mends c old new k s → r ≡ s
 mends-settled c old new k r s h p q =
     let x = span_of c old k h in
     settled (p x.pre x.post x.size x.is) (q x.pre x.post x.size x.is)

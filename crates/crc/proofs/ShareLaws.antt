@@ -18,9 +18,13 @@ use lib.ListN.{length, get_or, replicate, length-replicate}
 use Rattle.ground.proofs.TableLaws.{all_below, all_below_at}
 use Rattle.crc.specs.Check.{bit_in, bits_in, byte_in, reg_of}
 use Rattle.crc.specs.CheckUpdate.{share_of, farthest}
-use Rattle.crc.specs.Inner.{Ones}
 use Rattle.crc.proofs.CheckLaws.{bit_in_low, bits_in-xor, reg_of_added}
 use Rattle.crc.proofs.RemainderLaws.{bits_in_commute}
+
+-- t lists the shares of the byte 01 for every distance
+pub record Ones (t : List ℕ) : Type 0 where
+  pub count : length t ≡ suc farthest
+  pub share : (k : ℕ) → k ≤ farthest → get_or t k 0 ≡ share_of 1 k
 
 -- one more zero byte
 reg_of_zeros_suc : (k r : ℕ) → byte_in (reg_of r (replicate k 0)) 0 ≡ reg_of r (replicate (suc k) 0)

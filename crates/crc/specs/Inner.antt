@@ -7,11 +7,9 @@
 --     nested gs r      as many registers added as gs has numbers: r moved by the first of them, by the first two
 --                      together, by the first three and so on
 --     folded           a word that was moved is below this: it had 32 digits, and the highest power is x^22
---     Ones t           t lists the shares of the byte 01 for every distance
-use Rattle.std.specs.Prelude.{List, [], ◌∷◌, ◌≡◌, ℕ, zero, suc, ◌+◌, ◌*◌, ◌/◌, ◌%◌, ◌^◌, ◌≤◌, length, drop, get_or}
+use Rattle.std.specs.Prelude.{List, [], ◌∷◌, ◌≡◌, ℕ, zero, suc, ◌+◌, ◌*◌, ◌/◌, ◌%◌, ◌^◌, drop}
 use Rattle.std.specs.Int.Bits.{bit_xor}
 use Rattle.crc.specs.Check.{bit_in, bits_in, reg_of}
-use Rattle.crc.specs.CheckUpdate.{share_of, farthest}
 
 unfoldable pub rem_of : ℕ → ℕ → ℕ
 rem_of zero m = 0
@@ -29,7 +27,3 @@ nested (g ∷ gs) r = bits_in g (bit_xor (nested gs r) r)
 
 abbrev pub folded : ℕ
 folded = 2 ^ 54
-
-pub record Ones (t : List ℕ) : Type 0 where
-  pub count : length t ≡ suc farthest
-  pub share : (k : ℕ) → k ≤ farthest → get_or t k 0 ≡ share_of 1 k

@@ -1,6 +1,7 @@
 -- That a test of a definition says whether a case of document 01 holds (specs/Cases), and that a case which shows a
 -- value holds of one value alone.
 --     range_kept, range_left                    10: the test of a buffer and a place
+--     first_same                               two first places of one kind are the same
 --     first_no_word, no_first_word, -same       6: where the run of code words ends
 --     allowed_announces, announces_allowed      2: the test of a length byte
 --     first_wrong_block, no_wrong_block, -same  3: the walk over the blocks
@@ -15,14 +16,13 @@ use borrow.Author.Tests.{ltb-true, ltb-false, leb-false, eqb-true, eqb-false}
 use lib.Dec.{ltb, leb, eqb}
 use lib.ListN.{length, get_or, take, drop, length-drop, take-append-drop}
 use lib.Seq.{drop-drop, length-take-le}
+use Rattle.std.specs.Prelude.{Option, Some, None}
 use Rattle.chips.specs.Chips.{word_at, chip_count, room_limit, in_range}
 use Rattle.chips.proofs.RangeLaws.{in_range_true}
-use Rattle.line.specs.declared.codes.Value.{Value}
 use Rattle.line.specs.Codes.{LineCode, number_for, word_value}
 use Rattle.line.specs.Decoding.{value_at, is_word, good_run}
 use Rattle.line.proofs.CodeLaws.{word_value_is}
 use Rattle.line.proofs.GoodRunLaws.{good_run-le, good_run-all}
-use Rattle.blocks.specs.declared.Checks.{Checks}
 use Rattle.blocks.specs.Spans.{sealed, block_ok, first_wrong, size_of}
 use Rattle.blocks.proofs.SealLaws.{block_ok_sealed, sealed-take}
 use Rattle.frame.specs.declared.Format.{Format}
@@ -44,7 +44,7 @@ module _ (s : List ℕ) (at : ℕ) where
     by false a b = inl (omega (arith, leb-false (length s) room_limit a))
 
 -- two first places of one kind are the same: neither comes before the other
-first_same :
+pub first_same :
     {P : ℕ → Type 0} {i j : ℕ} → (P i → ⊥) → ((k : ℕ) → k < i → P k) → (P j → ⊥) → ((k : ℕ) → k < j → P k)
     → i ≡ j
 first_same {i = i} {j} not-i below-i not-j below-j = by (ltb i j) (ltb j i) refl refl where
@@ -60,7 +60,7 @@ number_for_some f y zero x l e = absurd (omega arith)
 number_for_some f y (suc n) x l e = by (eqb (f n) y) refl (λ p. number_for_some f y n x p e) where
   by :
       (t : Bool) → eqb (f n) y ≡ t → (x < n → is_word (number_for f y n) ≡ true)
-      → is_word (cond t (Value.Is n) (number_for f y n)) ≡ true
+      → is_word (cond t (Some n) (number_for f y n)) ≡ true
   by true h rest = refl
   by false h rest =
       ⊎_elim (λ (p : x ≡ n). absurd (eqb-false (f n) y h (rw p at e))) rest (eq-or-lt_of_le (le_of_suc-le-suc l))
@@ -69,18 +69,18 @@ module _ (κ : LineCode) (y : ℕ) where
   pub word_some : CodeWord κ y → is_word (word_value κ y) ≡ true
   word_some (x, (l, e)) = number_for_some κ.word_of y (2 ^ κ.bits) x l e
 
-  pub some_word : (v : Value) → word_value κ y ≡ v → is_word v ≡ true → CodeWord κ y
-  some_word (Value.Is x) e t = (x, word_value_is κ y x e)
-  some_word Value.NoWord e t = absurd (false≢true t)
+  pub some_word : (v : Option ℕ) → word_value κ y ≡ v → is_word v ≡ true → CodeWord κ y
+  some_word (Some x) e t = (x, word_value_is κ y x e)
+  some_word None e t = absurd (false≢true t)
 
-  pub no_word : (v : Value) → word_value κ y ≡ v → is_word v ≡ false → CodeWord κ y → ⊥
+  pub no_word : (v : Option ℕ) → word_value κ y ≡ v → is_word v ≡ false → CodeWord κ y → ⊥
   no_word v e t c = false≢true (sym t ∙ (ap is_word (sym e) ∙ word_some c))
 
 -- where the run of code words is broken, the word behind it is none, and all before it are
-Broken : (ℕ → Value) → ℕ → Type 0
+Broken : (ℕ → Option ℕ) → ℕ → Type 0
 Broken f g = (is_word (f g) ≡ false) × ((j : ℕ) → j < g → is_word (f j) ≡ true)
 
-good_run_ends : (f : ℕ → Value) (m : ℕ) → good_run f m < m → Broken f (good_run f m)
+good_run_ends : (f : ℕ → Option ℕ) (m : ℕ) → good_run f m < m → Broken f (good_run f m)
 unfolding good_run Broken
 good_run_ends f zero l = absurd (not-suc-le-zero l)
 good_run_ends f (suc m) l = by (eqb (good_run f m) m) refl (is_word (f m)) refl (good_run_ends f m) l where
@@ -184,15 +184,15 @@ module _ (k : ℕ) (ks s : List ℕ) (fits : k + 2 ≤ length s) where
       }
 
 -- what the walk over the blocks says of them, b blocks having been passed before
-abbrev Judges : ℕ → List ℕ → List ℕ → Checks → Type 0
-Judges b ks s Checks.Right = (i : ℕ) → i < length ks → RightBlock ks s i
-Judges b ks s (Checks.Wrong c) = (i : ℕ) × ((c ≡ b + i) × WrongAt ks s i)
+abbrev Judges : ℕ → List ℕ → List ℕ → Option ℕ → Type 0
+Judges b ks s None = (i : ℕ) → i < length ks → RightBlock ks s i
+Judges b ks s (Some c) = (i : ℕ) × ((c ≡ b + i) × WrongAt ks s i)
 
 judges_cons :
-    (b k : ℕ) (ks s : List ℕ) → k + 2 ≤ length s → block_ok k s ≡ true → (w : Checks)
+    (b k : ℕ) (ks s : List ℕ) → k + 2 ≤ length s → block_ok k s ≡ true → (w : Option ℕ)
     → Judges (b + 1) ks (drop (k + 2) s) w → Judges b (k ∷ ks) s w
-judges_cons b k ks s fits ok Checks.Right all = right_below k ks s fits ok (length ks) all
-judges_cons b k ks s fits ok (Checks.Wrong c) (i, (e, w)) = (suc i, (omega arith, wrong_later k ks s fits ok i w))
+judges_cons b k ks s fits ok None all = right_below k ks s fits ok (length ks) all
+judges_cons b k ks s fits ok (Some c) (i, (e, w)) = (suc i, (omega arith, wrong_later k ks s fits ok i w))
 
 first_wrong_judges : (b : ℕ) (ks s : List ℕ) → size_of ks ≤ length s → Judges b ks s (first_wrong b ks s)
 unfolding first_wrong size_of
@@ -203,12 +203,12 @@ first_wrong_judges b (k ∷ ks) s fits =
     by :
         (t : Bool) → block_ok k s ≡ t
         → Judges (b + 1) ks (drop (k + 2) s) (first_wrong (b + 1) ks (drop (k + 2) s))
-        → Judges b (k ∷ ks) s (cond t (first_wrong (b + 1) ks (drop (k + 2) s)) (Checks.Wrong b))
+        → Judges b (k ∷ ks) s (cond t (first_wrong (b + 1) ks (drop (k + 2) s)) (Some b))
     by true e rest = judges_cons b k ks s (omega arith) e (first_wrong (b + 1) ks (drop (k + 2) s)) rest
     by false e rest = (0, (omega arith, wrong_here k ks s (omega arith) e))
 
 module _ (ks s : List ℕ) (fits : size_of ks ≤ length s) where
-  pub first_wrong_block : (b : ℕ) → first_wrong 1 ks s ≡ Checks.Wrong b → FirstWrongBlock ks s b
+  pub first_wrong_block : (b : ℕ) → first_wrong 1 ks s ≡ Some b → FirstWrongBlock ks s b
   first_wrong_block b e = by (subst (Judges 1 ks s) e (first_wrong_judges 1 ks s fits)) where
     by : ((i : ℕ) × ((b ≡ 1 + i) × WrongAt ks s i)) → FirstWrongBlock ks s b
     by (i, (e, w)) =
@@ -220,7 +220,7 @@ module _ (ks s : List ℕ) (fits : size_of ks ≤ length s) where
           before = λ j l. w.before j (omega arith);
         }
 
-  pub no_wrong_block : (b : ℕ) → first_wrong 1 ks s ≡ Checks.Right → FirstWrongBlock ks s b → ⊥
+  pub no_wrong_block : (b : ℕ) → first_wrong 1 ks s ≡ None → FirstWrongBlock ks s b → ⊥
   no_wrong_block b e p =
       p.wrong (subst (Judges 1 ks s) e (first_wrong_judges 1 ks s fits) (b - 1) (omega (arith, p.one, p.among)))
 

@@ -10,22 +10,23 @@ use borrow.Author.Tests.{ltb-true, ltb-false, lt-ltb, le-ltb, eqb-true, eqb-fals
 use lib.Dec.{ltb, eqb}
 use lib.Ieee.{Float}
 use lib.ListN.{length, get_or}
-use Rattle.ground.proofs.CaseLaws.{zero_not_one, and_left, and_right}
+use Rattle.std.specs.Prelude.{Option, Some, None, slice_get}
+use Rattle.std.proofs.lemmas.Option.{slice_get_past, slice_get-get_or}
+use Rattle.ground.proofs.CaseLaws.{by_test, zero_not_one}
 use Rattle.chips.specs.Packing.{tabulate}
 use Rattle.channels.specs.declared.listing.Band.{Band}
 use Rattle.channels.specs.declared.listing.Line.{Line}
-use Rattle.channels.specs.declared.plan.Centre.{Centre}
 use Rattle.channels.specs.Table21.{Entry, table, entry_of, channels_of, quarters_of}
 use Rattle.channels.proofs.Table21Laws.{entry_of_past}
 use Rattle.channels.specs.Plan.{float, centre_of}
-use Rattle.channels.specs.Listing.{letter_of, band_of, channels_up_to, lines_from, lines_of, line_at}
+use Rattle.channels.specs.Listing.{letter_of, band_of, channels_up_to, lines_from, lines_of, line_at, channel_line}
 use Rattle.kusikhut.specs.Told.{Told, told, told_line, told_centre}
 
 module _ (i c : ℕ) where
   abbrev centre : Bool → Told Float
-  centre t = told_centre (cond t (Centre.At (float (quarters_of i c))) Centre.NoSuch)
+  centre t = told_centre (cond t (Some (float (quarters_of i c))) None)
 
-  pub there : c < channels_of i → centre_of i c ≡ Centre.At (float (quarters_of i c))
+  pub there : c < channels_of i → centre_of i c ≡ Some (float (quarters_of i c))
   there h = rw (lt-ltb c (channels_of i) h)
 
   pub no_channel : (told_centre (centre_of i c) ≡ told 13 (float 0 ∷ [])) ↔ (channels_of i ≤ c)
@@ -41,62 +42,41 @@ module _ (i c : ℕ) where
     by true p e = ltb-true c (channels_of i) p
     by false p e = absurd (zero_not_one (let n = ap (λ (x : Told Float). x.number) e in cc))
 
--- every line of a list is one of a channel
-is_channel : Line → Bool
-is_channel (Line.Channel i c h) = true
-is_channel Line.End = false
-
-all_channels : List Line → Bool
-all_channels [] = true
-all_channels (x ∷ xs) = is_channel x && all_channels xs
-
-lines_of_channels : (b : Band) → all_channels (lines_of b) ≡ true
-unfolding all_channels is_channel lines_from channels_up_to entry_of table
-lines_of_channels Band.A = refl
-lines_of_channels Band.B = refl
-lines_of_channels Band.C = refl
-lines_of_channels Band.D = refl
-lines_of_channels Band.NoSuch = refl
-
-listed_channel : (xs : List Line) (k : ℕ) → all_channels xs ≡ true → k < length xs → get_or xs k Line.End ≡ Line.End → ⊥
-unfolding all_channels is_channel
-listed_channel [] k all h e = not-suc-le-zero h
-listed_channel (x ∷ xs) zero all h e =
-    false≢true (sym (ap is_channel e) ∙ and_left (is_channel x) (all_channels xs) all)
-listed_channel (x ∷ xs) (suc k) all h e =
-    listed_channel xs k (and_right (is_channel x) (all_channels xs) all) (le_of_suc-le-suc h) e
-
-listed_end : (xs : List Line) (k : ℕ) → length xs ≤ k → get_or xs k Line.End ≡ Line.End
-listed_end [] k h = refl
-listed_end (x ∷ xs) zero h = absurd (not-suc-le-zero h)
-listed_end (x ∷ xs) (suc k) h = listed_end xs k (le_of_suc-le-suc h)
-
-told_end : (x : Line) → told_line x ≡ told 13 (0 ∷ 0 ∷ 0 ∷ []) → x ≡ Line.End
-told_end (Line.Channel i c h) e = absurd (zero_not_one (let n = ap (λ (t : Told ℕ). t.number) e in cc))
-told_end Line.End e = refl
+told_none : (x : Option Line) → told_line x ≡ told 13 (0 ∷ 0 ∷ 0 ∷ []) → x ≡ None
+told_none (Some x) e = absurd (zero_not_one (let n = ap (λ (t : Told ℕ). t.number) e in cc))
+told_none None e = refl
 
 pub no_line :
-    (b : Band) (k : ℕ) → (told_line (line_at b k) ≡ told 13 (0 ∷ 0 ∷ 0 ∷ [])) ↔ (length (lines_of b) ≤ k)
-no_line b k = (λ e. by (ltb k (length (lines_of b))) refl e, λ h. ap told_line (listed_end (lines_of b) k h)) where
-  by :
-      (t : Bool) → ltb k (length (lines_of b)) ≡ t → told_line (line_at b k) ≡ told 13 (0 ∷ 0 ∷ 0 ∷ [])
-      → length (lines_of b) ≤ k
-  by true p e =
-      let inside = ltb-true k (length (lines_of b)) p in
-      absurd (listed_channel (lines_of b) k (lines_of_channels b) inside (told_end (line_at b k) e))
-  by false p e = ltb-false k (length (lines_of b)) p
+    (b : Option Band) (k : ℕ) → (told_line (line_at b k) ≡ told 13 (0 ∷ 0 ∷ 0 ∷ [])) ↔ (length (lines_of b) ≤ k)
+no_line b k = (λ e. by (told_none (line_at b k) e), λ h. ap told_line (slice_get_past (lines_of b) k h)) where
+  by : slice_get (lines_of b) k ≡ None → length (lines_of b) ≤ k
+  by none =
+      by_test (ltb k (length (lines_of b)))
+      (λ t. let some = slice_get-get_or (lines_of b) k (channel_line 0 0 0) (ltb-true k (length (lines_of b)) t) in
+      absurd (zero_not_one (let clash = sym some ∙ none in cc)))
+      (λ t. ltb-false k (length (lines_of b)) t)
 
-pub a_line : (x : Line) (i c h : ℕ) → (told_line x ≡ told 0 (i ∷ c ∷ h ∷ [])) ↔ (x ≡ Line.Channel i c h)
+-- a line is its three parts
+line_same :
+    {i j c d h g : ℕ} → i ≡ j → c ≡ d → h ≡ g → channel_line i c h ≡ channel_line j d g
+line_same p q r = rw (p, q, r)
+
+pub a_line : (x : Option Line) (i c h : ℕ) → (told_line x ≡ told 0 (i ∷ c ∷ h ∷ [])) ↔ (x ≡ Some (channel_line i c h))
 a_line x i c h = (there x, λ e. ap told_line e) where
-  there : (x : Line) → told_line x ≡ told 0 (i ∷ c ∷ h ∷ []) → x ≡ Line.Channel i c h
-  there (Line.Channel j d g) e = let row = ap (λ (t : Told ℕ). t.results) e in cc
-  there Line.End e = absurd (zero_not_one (let n = ap (λ (t : Told ℕ). t.number) e in cc))
+  there : (x : Option Line) → told_line x ≡ told 0 (i ∷ c ∷ h ∷ []) → x ≡ Some (channel_line i c h)
+  there (Some x) e =
+      let row = ap (λ (t : Told ℕ). t.results) e in
+      let index : x.index ≡ i = cc in
+      let channel : x.channel ≡ c = cc in
+      let hertz : x.hertz ≡ h = cc in
+      ap Some (line_same index channel hertz)
+  there None e = absurd (zero_not_one (let n = ap (λ (t : Told ℕ). t.number) e in cc))
 
-letter_some : (x : ℕ) → 65 ≤ x → x ≤ 68 → letter_of x ≡ Band.NoSuch → ⊥
+letter_some : (x : ℕ) → 65 ≤ x → x ≤ 68 → letter_of x ≡ None → ⊥
 letter_some x low high = by (eqb x 65) (eqb x 66) (eqb x 67) (eqb x 68) refl refl refl refl where
   by :
       (a b c d : Bool) → eqb x 65 ≡ a → eqb x 66 ≡ b → eqb x 67 ≡ c → eqb x 68 ≡ d
-      → cond a Band.A (cond b Band.B (cond c Band.C (cond d Band.D Band.NoSuch))) ≡ Band.NoSuch → ⊥
+      → cond a (Some Band.A) (cond b (Some Band.B) (cond c (Some Band.C) (cond d (Some Band.D) None))) ≡ None → ⊥
   by true b c d p q r s e = zero_not_one (cc)
   by false true c d p q r s e = zero_not_one (cc)
   by false false true d p q r s e = zero_not_one (cc)
@@ -104,7 +84,7 @@ letter_some x low high = by (eqb x 65) (eqb x 66) (eqb x 67) (eqb x 68) refl ref
   by false false false false p q r s e =
       omega (arith, eqb-false x 65 p, eqb-false x 66 q, eqb-false x 67 r, eqb-false x 68 s)
 
-letter_none : (x : ℕ) → (65 ≤ x → x ≤ 68 → ⊥) → letter_of x ≡ Band.NoSuch
+letter_none : (x : ℕ) → (65 ≤ x → x ≤ 68 → ⊥) → letter_of x ≡ None
 letter_none x none =
     rw (
       ne_eqb x 65 (λ e. none (omega arith) (omega arith)),
@@ -117,24 +97,25 @@ letter_none x none =
 abbrev Named : List ℕ → ℕ → Type 0
 Named s x = (s ≡ x ∷ []) ⊎ (s ≡ x ∷ 10 ∷ [])
 
-pub no_band : (s : List ℕ) → (band_of s ≡ Band.NoSuch) ↔ ((x : ℕ) → 65 ≤ x → x ≤ 68 → Named s x → ⊥)
+pub no_band : (s : List ℕ) → (band_of s ≡ None) ↔ ((x : ℕ) → 65 ≤ x → x ≤ 68 → Named s x → ⊥)
 unfolding band_of
 no_band s = (there, back s) where
-  there : band_of s ≡ Band.NoSuch → (x : ℕ) → 65 ≤ x → x ≤ 68 → Named s x → ⊥
+  there : band_of s ≡ None → (x : ℕ) → 65 ≤ x → x ≤ 68 → Named s x → ⊥
   there e x low high (inl h) = letter_some x low high (ap band_of (sym h) ∙ e)
   there e x low high (inr h) = letter_some x low high (ap band_of (sym h) ∙ e)
 
-  back : (s : List ℕ) → ((x : ℕ) → 65 ≤ x → x ≤ 68 → Named s x → ⊥) → band_of s ≡ Band.NoSuch
+  back : (s : List ℕ) → ((x : ℕ) → 65 ≤ x → x ≤ 68 → Named s x → ⊥) → band_of s ≡ None
   back [] none = refl
   back (x ∷ []) none = letter_none x (λ low high. none x low high (inl refl))
   back (x ∷ (y ∷ [])) none = by (eqb y 10) refl where
-    by : (t : Bool) → eqb y 10 ≡ t → cond t (letter_of x) Band.NoSuch ≡ Band.NoSuch
+    by : (t : Bool) → eqb y 10 ≡ t → cond t (letter_of x) None ≡ None
     by true e = letter_none x (λ low high. none x low high (inr (rw (eqb-true y 10 e))))
     by false e = refl
   back (x ∷ (y ∷ (z ∷ s))) none = refl
 
 pub a_band :
-    map band_of ((65 ∷ []) ∷ (66 ∷ []) ∷ (67 ∷ []) ∷ (68 ∷ []) ∷ []) ≡ Band.A ∷ Band.B ∷ Band.C ∷ Band.D ∷ []
+    map band_of ((65 ∷ []) ∷ (66 ∷ []) ∷ (67 ∷ []) ∷ (68 ∷ []) ∷ [])
+    ≡ Some Band.A ∷ Some Band.B ∷ Some Band.C ∷ Some Band.D ∷ []
 unfolding band_of
 a_band = refl
 
@@ -144,8 +125,8 @@ with_a_line_feed x = refl
 
 -- document 01's own list of band B
 pub band_b :
-    (line_at Band.B 0 ≡ Line.Channel 5 0 169481250) × ((line_at Band.B 1 ≡ Line.Channel 6 0 169481250)
-    × (line_at Band.B 2 ≡ Line.End))
+    (line_at (Some Band.B) 0 ≡ Some (channel_line 5 0 169481250))
+    × ((line_at (Some Band.B) 1 ≡ Some (channel_line 6 0 169481250)) × (line_at (Some Band.B) 2 ≡ None))
 unfolding lines_from channels_up_to entry_of table
 band_b = (refl, (refl, refl))
 
@@ -156,7 +137,8 @@ unfolding tabulate entry_of table
 channels_listed = (refl, λ i h. ap (λ (e : Entry). e.channels) (entry_of_past i h))
 
 pub band_lines :
-    map (λ (b : Band). length (lines_of b)) (Band.A ∷ Band.B ∷ Band.C ∷ Band.D ∷ Band.NoSuch ∷ [])
+    map (λ (b : Option Band). length (lines_of b))
+    (Some Band.A ∷ Some Band.B ∷ Some Band.C ∷ Some Band.D ∷ None ∷ [])
     ≡ 19 ∷ 2 ∷ 24 ∷ 58 ∷ 0 ∷ []
 unfolding lines_from channels_up_to entry_of table
 band_lines = refl

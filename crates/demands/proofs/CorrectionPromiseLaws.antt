@@ -17,8 +17,8 @@ use borrow.Author.Tests.{ltb-false}
 use lib.Dec.{ltb}
 use lib.ListN.{length, take, drop, length-append}
 use lib.Seq.{length-take-le, take_at, drop_at}
+use Rattle.std.specs.Prelude.{Result, Ok, Err}
 use Rattle.answers.specs.declared.Refusal.{Refusal}
-use Rattle.answers.specs.declared.Written.{Written}
 use Rattle.answers.specs.Outcome.{Outcome, leaving}
 use Rattle.ground.specs.Bytes.{Bytes}
 use Rattle.ground.proofs.ByteLaws.{bytes_take}
@@ -29,7 +29,7 @@ use Rattle.frame.specs.Frames.{FrameAt}
 use Rattle.frame.specs.Judging.{judge_of}
 use Rattle.frame.specs.Reads.{taken_out, reading_of}
 use Rattle.frame.proofs.AcceptLaws.{judge_of_frame, content_in_frame, judge_of-accepted, whole_frame}
-use Rattle.codewords.specs.declared.Announced.{Announced}
+use Rattle.frame.specs.Formats.{sizes}
 use Rattle.codewords.specs.CodeBlocks.{Corrects}
 use Rattle.codewords.specs.CheckBytes.{checks_of}
 use Rattle.codewords.specs.Corrections.{header_of, corrected, put_corrected, correcting_of, bit_of, announced_of}
@@ -37,25 +37,25 @@ use Rattle.codewords.proofs.DivisionLaws.{length-checks_of}
 use Rattle.codewords.proofs.UniqueLaws.{corrects_checks, corrects_only}
 
 -- what was put behind a frame of z bytes, where the answer is y
-pub record Put (s d : List ℕ) (o : Outcome Written) (j : Frame) (y : ℕ) : Type 0 where
+pub record Put (s d : List ℕ) (o : Outcome (Result ℕ Refusal)) (j : Result Frame Refusal) (y : ℕ) : Type 0 where
   pub z : ℕ
   pub n : ℕ
-  pub frame : j ≡ Frame.Accepted z n
+  pub frame : j ≡ Ok (sizes z n)
   pub most : z ≤ 223
   pub room : z + 34 ≤ length d
   pub size : z + 34 ≡ y
   pub memory : o.memory ≡ corrected (take z s) ++ drop (z + 34) d
 
 module _ (s d : List ℕ) (y : ℕ) where
-  abbrev put_by : ℕ → Bool → Bool → Outcome Written
+  abbrev put_by : ℕ → Bool → Bool → Outcome (Result ℕ Refusal)
   put_by z t u =
-      cond t (leaving (Written.Refused Refusal.TooLong) d)
-      (cond u (leaving (Written.Refused Refusal.NoRoom) d)
-      (record { answer = Written.Accepted (z + 34); memory = corrected (take z s) ++ drop (z + 34) d }))
+      cond t (leaving (Err Refusal.TooLong) d)
+      (cond u (leaving (Err Refusal.NoRoom) d)
+      (record { answer = Ok (z + 34); memory = corrected (take z s) ++ drop (z + 34) d }))
 
   put_by_lem :
-      (z n : ℕ) (t u : Bool) → ltb 223 z ≡ t → ltb (length d) (z + 34) ≡ u → (put_by z t u).answer ≡ Written.Accepted y
-      → Put s d (put_by z t u) (Frame.Accepted z n) y
+      (z n : ℕ) (t u : Bool) → ltb 223 z ≡ t → ltb (length d) (z + 34) ≡ u → (put_by z t u).answer ≡ Ok y
+      → Put s d (put_by z t u) (Ok (sizes z n)) y
   put_by_lem z n true u long few h = absurd (zero_not_one (cc))
   put_by_lem z n false true long few h = absurd (zero_not_one (cc))
   put_by_lem z n false false long few h =
@@ -70,10 +70,10 @@ module _ (s d : List ℕ) (y : ℕ) where
       }
 
   put-accepted :
-      (j : Frame) → (put_corrected s d j).answer ≡ Written.Accepted y → Put s d (put_corrected s d j) j y
+      (j : Result Frame Refusal) → (put_corrected s d j).answer ≡ Ok y → Put s d (put_corrected s d j) j y
   unfolding put_corrected
-  put-accepted (Frame.Accepted z n) h = put_by_lem z n (ltb 223 z) (ltb (length d) (z + 34)) refl refl h
-  put-accepted (Frame.Refused r) h = absurd (zero_not_one (cc))
+  put-accepted (Ok a) h = put_by_lem a.size a.n (ltb 223 a.size) (ltb (length d) (a.size + 34)) refl refl h
+  put-accepted (Err r) h = absurd (zero_not_one (cc))
 
 pub read_alike :
     {f : Format} {s m : List ℕ} {z : ℕ} {c : List ℕ} → FrameAt f s z c → FrameAt f m z c
@@ -81,7 +81,7 @@ pub read_alike :
 unfolding reading_of taken_out
 read_alike p q e = rw (judge_of_frame p, judge_of_frame q, content_in_frame p, content_in_frame q)
 
-module _ (f : Format) (s d : List ℕ) (y : ℕ) (h : (correcting_of f s d).answer ≡ Written.Accepted y) where
+module _ (f : Format) (s d : List ℕ) (y : ℕ) (h : (correcting_of f s d).answer ≡ Ok y) where
   pub correcting_put : Put s d (correcting_of f s d) (judge_of f s) y
   unfolding correcting_of
   correcting_put = put-accepted s d y (judge_of f s) h
@@ -113,7 +113,7 @@ module _ (f : Format) (s d : List ℕ) (y : ℕ) (h : (correcting_of f s d).answ
   drop_frame : drop put.z m ≡ header_of 1 ++ (checks_of w ++ rest)
   drop_frame = rw (put.memory, append_assoc w (header_of 1 ++ checks_of w) rest) (drop_at w _ put.z length_word)
 
-  pub correcting_announced : announced_of (drop (y - 34) m) ≡ Announced.ReedSolomon
+  pub correcting_announced : announced_of (drop (y - 34) m) ≡ Ok tt
   unfolding announced_of bit_of
   correcting_announced = let frame : y - 34 ≡ put.z = omega (arith, put.size) in rw (frame, drop_frame)
 

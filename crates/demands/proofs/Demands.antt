@@ -7,6 +7,7 @@ use lib.Dec.{ltb}
 use native.Mathlib.Omega.{arith}
 use lib.ListN.{length, take, set, replicate, length-set}
 use lib.Seq.{take_all}
+use Rattle.std.specs.Prelude.{Ok, Err}
 use Rattle.answers.specs.declared.Refusal.{Refusal}
 use Rattle.answers.specs.Refusals.{number_of, value_of}
 use Rattle.line.specs.Codes.{code_of}
@@ -15,7 +16,7 @@ use Rattle.address.proofs.MakerLaws.{maker_of_hard, maker_of_soft, letters_turne
 use Rattle.filter.specs.Listed.{verdict_of}
 use Rattle.header.proofs.HeaderTripLaws.{header_read_write, header_write_read}
 use Rattle.header.proofs.AccessLaws.{access_row-access_of}
-use Rattle.channels.proofs.ListingLaws.{get_or_lines_from-lt, get_or_lines_from-le}
+use Rattle.channels.proofs.ListingLaws.{slice_get_lines_from-lt, slice_get_lines_from-le}
 use Rattle.channels.proofs.ExactLaws.{row_of_exact, float-quarters_of_exact}
 use Rattle.crc.specs.Check.{bit_in, bits_in, byte_in, reg_of, check_of}
 use Rattle.crc.proofs.CheckLaws.{check_of-lt}
@@ -30,6 +31,7 @@ use Rattle.frame.proofs.AcceptLaws.{judge_of_frame}
 use Rattle.frame.proofs.ReadLaws.{read_exactly, read-accepted, handed_take}
 use Rattle.frame.proofs.WriteLaws.{read_write, write_read}
 use Rattle.frame.proofs.SequenceLaws.{changes_write, changes_answer, edited_last}
+use Rattle.frame.specs.Formats.{sizes}
 use Rattle.radio.proofs.HeardLaws.{heard_exactly}
 use Rattle.radio.proofs.RoundLaws.{sent_heard}
 use Rattle.channels.specs.Listing.{line_at}
@@ -112,7 +114,7 @@ meter-numbers =
       exact_centre = λ i c h. (channel.there i c h, float-quarters_of_exact i c h);
       no_line = channel.no_line;
       a_line = λ b k. channel.a_line (line_at b k);
-      line_order = (λ b k. refl, λ i n k p. (get_or_lines_from-lt i n k p, get_or_lines_from-le i n k p));
+      line_order = (λ b k. refl, λ i n k p. (slice_get_lines_from-lt i n k p, slice_get_lines_from-le i n k p));
       band_b = channel.band_b;
       no_band = channel.no_band;
       a_band = channel.a_band;
@@ -183,7 +185,7 @@ frames_in_chips =
     }
 
 -- the frame that reading accepted, and its content
-module _ (f : Format) (s d : List ℕ) (z n : ℕ) (e : (reading_of f s d).answer ≡ Frame.Accepted z n) where
+module _ (f : Format) (s d : List ℕ) (z n : ℕ) (e : (reading_of f s d).answer ≡ Ok (sizes z n)) where
   abbrev c : List ℕ
   c = take n (reading_of f s d).memory
 
@@ -196,13 +198,13 @@ module _ (f : Format) (s d : List ℕ) (z n : ℕ) (e : (reading_of f s d).answe
   read_size : length c ≡ n
   read_size = ap length read-content ∙ (read-accepted f s d e).sized
 
-  read_judged : judge_of f s ≡ Frame.Accepted z n
-  read_judged = judge_of_frame read_frame ∙ ap (Frame.Accepted z) read_size
+  read_judged : judge_of f s ≡ Ok (sizes z n)
+  read_judged = judge_of_frame read_frame ∙ ap (λ (k : ℕ). Ok (sizes z k)) read_size
 
   read_answers :
       (es : List Edit)
       → answers_of f es s
-      ≡ map (λ (x : Edit). cond (ltb x.place n) (Frame.Accepted z n) (Frame.Refused Refusal.BadPlace)) es
+      ≡ map (λ (x : Edit). cond (ltb x.place n) (Ok (sizes z n)) (Err Refusal.BadPlace)) es
   read_answers es = rw read_size at (changes_answer f es s z c read_frame)
 
   read_touched :

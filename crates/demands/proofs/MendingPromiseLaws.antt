@@ -18,26 +18,25 @@ use Prim.Native.Nat.{ℕ, ◌+◌, ◌-◌, ◌≤◌, ◌<◌}
 use native.Mathlib.Omega.{arith}
 use lib.ListN.{length, get_or, take, drop, set, length-append, length-set, get_or-append}
 use lib.Seq.{take_at, length-take-le, get_or-take, get_or-set_other}
+use Rattle.std.specs.Prelude.{Result, Ok, Err}
 use Rattle.answers.specs.Outcome.{Outcome}
 use Rattle.answers.specs.declared.Refusal.{Refusal}
-use Rattle.answers.specs.declared.Written.{Written}
 use Rattle.ground.specs.Apart.{apart}
 use Rattle.ground.specs.Bytes.{Bytes}
 use Rattle.ground.proofs.ApartLaws.{apart_self, apart_comm, apart-set}
 use Rattle.ground.proofs.ByteLaws.{bytes-append, bytes_take, bytes-set}
 use Rattle.frame.specs.declared.Format.{Format}
-use Rattle.frame.specs.declared.Frame.{Frame}
 use Rattle.frame.specs.Frames.{content_in, FrameAt}
 use Rattle.frame.specs.Judging.{judge_of}
 use Rattle.frame.specs.Reads.{reading_of}
 use Rattle.frame.proofs.AcceptLaws.{size_for_frame, frame_some, judge_of_frame, judge_of-accepted, whole_frame}
 use Rattle.frame.proofs.ReadLaws.{read-accepted}
+use Rattle.frame.specs.Formats.{sizes}
 use Rattle.codewords.specs.CodeBlocks.{CodeBlock}
 use Rattle.codewords.specs.CheckBytes.{checks_of}
 use Rattle.codewords.specs.Corrections.{header_of, corrected, correcting_of}
 use Rattle.codewords.proofs.DivisionLaws.{length-checks_of, bytes-checks_of, checks_code}
 use Rattle.codewords.proofs.OutcomeLaws.{correcting_done}
-use Rattle.proposals.specs.declared.Proposal.{Proposal}
 use Rattle.proposals.specs.Received.{received}
 use Rattle.proposals.specs.Near.{Nearest}
 use Rattle.proposals.specs.Proposals.{proposal_of, proposing_of}
@@ -64,7 +63,7 @@ code_word_alone c bytes most code m is = nearest_only 1 c (omega arith) most m c
 -- ---- a frame with its correction bytes
 
 module _ (f : Format) (s d : List ℕ) (y : ℕ) (bytes : Bytes s)
-    (h : (correcting_of f s d).answer ≡ Written.Accepted y) where
+    (h : (correcting_of f s d).answer ≡ Ok y) where
   abbrev put : Put s d (correcting_of f s d) (judge_of f s) y
   put = correcting_put f s d y h
 
@@ -110,14 +109,14 @@ module _ (f : Format) (s d : List ℕ) (y : ℕ) (bytes : Bytes s)
   -- said of any number that is z, and of any word that is c
   taken_at :
       (k : ℕ) (x r : List ℕ) → k ≡ z → x ≡ c → z + 34 ≤ length r → apart (received k r) x ≤ 16
-      → proposal_of f x r ≡ Proposal.Taken (apart (received k r) x)
+      → proposal_of f x r ≡ Ok (apart (received k r) x)
   taken_at k x r ek ex there few =
       rw (ek, ex)
       (rw (append-nil c) at (word_taken written_sent r there (rw (ek, ex) at few) []))
 
   only_at :
       (k : ℕ) (x r p : List ℕ) (n : ℕ) → k ≡ z → x ≡ c → z + 34 ≤ length r → apart (received k r) x ≤ 16
-      → Bytes p → get_or p 0 0 ≡ get_or s 0 0 → proposal_of f p r ≡ Proposal.Taken n → take (k + 32) p ≡ x
+      → Bytes p → get_or p 0 0 ≡ get_or s 0 0 → proposal_of f p r ≡ Ok n → take (k + 32) p ≡ x
   only_at k x r p n ek ex there few b same taken =
       rw (ek, ex) (word_only written_sent r there (rw (ek, ex) at few) p n b (same ∙ sym first_c) taken)
 
@@ -130,13 +129,13 @@ module _ (f : Format) (s d : List ℕ) (y : ℕ) (bytes : Bytes s)
   pub written_taken :
       (r : List ℕ) → y ≤ length r → apart (received (y - 34) r) (received (y - 34) m) ≤ 16
       → proposal_of f (received (y - 34) m) r
-      ≡ Proposal.Taken (apart (received (y - 34) r) (received (y - 34) m))
+      ≡ Ok (apart (received (y - 34) r) (received (y - 34) m))
   written_taken r there few =
       taken_at (y - 34) (received (y - 34) m) r size_is word_is (omega (arith, put.size)) few
 
   pub taken-written :
       (r : List ℕ) → y ≤ length r → apart (received (y - 34) r) (received (y - 34) m) ≤ 16
-      → (p : List ℕ) (n : ℕ) → Bytes p → get_or p 0 0 ≡ get_or s 0 0 → proposal_of f p r ≡ Proposal.Taken n
+      → (p : List ℕ) (n : ℕ) → Bytes p → get_or p 0 0 ≡ get_or s 0 0 → proposal_of f p r ≡ Ok n
       → take (y - 34 + 32) p ≡ received (y - 34) m
   taken-written r there few p n =
       only_at (y - 34) (received (y - 34) m) r p n size_is word_is (omega (arith, put.size)) few
@@ -156,18 +155,18 @@ module _ (f : Format) (s d : List ℕ) (y : ℕ) (bytes : Bytes s)
     abbrev t : List ℕ
     t = drop (z + 32) e
 
-    made : proposing_of k f r e ≡ record { answer = Written.Accepted (z + 32); memory = c ++ t }
+    made : proposing_of k f r e ≡ record { answer = Ok (z + 32); memory = c ++ t }
     made = word-proposed written_sent r there k low b (same ∙ sym first_c) few e room
 
     -- what holds of the word that was written and t behind it, holds of what the proposer leaves
     of_memory : {A : Type 0} {a : A} (g : List ℕ → A) → g (c ++ t) ≡ a → g (proposing_of k f r e).memory ≡ a
-    of_memory g is = ap (λ (o : Outcome Written). g o.memory) made ∙ is
+    of_memory g is = ap (λ (o : Outcome (Result ℕ Refusal)). g o.memory) made ∙ is
 
     pub written_mended : MendedAgain k f s m r e z (apart (received z r) (received z m))
     written_mended =
         let word = correcting_word f s d y h in
         record {
-          answer = ap (λ (o : Outcome Written). o.answer) made;
+          answer = ap (λ (o : Outcome (Result ℕ Refusal)). o.answer) made;
           word = of_memory (take (z + 32)) (take_at c t (z + 32) written_sent.count ∙ sym word);
           taken = of_memory (λ q. proposal_of f q r)
               (rw word (word_taken written_sent r there (omega arith) t));
@@ -231,20 +230,20 @@ module _ (f : Format) (s d : List ℕ) (y : ℕ) (bytes : Bytes s)
 
 -- the same of a frame that reading accepts
 accepted-corrected :
-    (f : Format) (s room : List ℕ) (z n : ℕ) → (reading_of f s room).answer ≡ Frame.Accepted z n → z ≤ 223
-    → (lent : List ℕ) → z + 34 ≤ length lent → (correcting_of f s lent).answer ≡ Written.Accepted (z + 34)
+    (f : Format) (s room : List ℕ) (z n : ℕ) → (reading_of f s room).answer ≡ Ok (sizes z n) → z ≤ 223
+    → (lent : List ℕ) → z + 34 ≤ length lent → (correcting_of f s lent).answer ≡ Ok (z + 34)
 accepted-corrected f s room z n accepted most lent there =
     let judged = judge_of_frame (read-accepted f s room accepted).frame in
-    ap (λ (o : Outcome Written). o.answer) (correcting_done f s lent judged most there)
+    ap (λ (o : Outcome (Result ℕ Refusal)). o.answer) (correcting_done f s lent judged most there)
 
 pub mended_and_read :
-    (f : Format) (s room : List ℕ) (z n : ℕ) → Bytes s → (reading_of f s room).answer ≡ Frame.Accepted z n → z ≤ 223
+    (f : Format) (s room : List ℕ) (z n : ℕ) → Bytes s → (reading_of f s room).answer ≡ Ok (sizes z n) → z ≤ 223
     → (lent : List ℕ) → z + 34 ≤ length lent
     → let m = (correcting_of f s lent).memory in
     (i b : ℕ) → 1 ≤ i → i < z + 34 → b < 256 → (e : List ℕ) → z + 32 ≤ length e
     → let r = set m i b in
     let differing = apart (received z r) (received z m) in
-    ((correcting_of f s lent).answer ≡ Written.Accepted (z + 34))
+    ((correcting_of f s lent).answer ≡ Ok (z + 34))
     × ((differing ≤ 1) × MendedAgain 1 f s m r e z differing)
 mended_and_read f s room z n bytes accepted most lent there i b behind inside byte e fits =
     let h = accepted-corrected f s room z n accepted most lent there in
@@ -252,13 +251,13 @@ mended_and_read f s room z n bytes accepted most lent there i b behind inside by
     (h, rw same at (one_byte_mended f s lent (z + 34) bytes h i b behind (omega arith) byte e (omega arith)))
 
 pub sixteen_and_read :
-    (f : Format) (s room : List ℕ) (z n : ℕ) → Bytes s → (reading_of f s room).answer ≡ Frame.Accepted z n → z ≤ 223
+    (f : Format) (s room : List ℕ) (z n : ℕ) → Bytes s → (reading_of f s room).answer ≡ Ok (sizes z n) → z ≤ 223
     → (lent : List ℕ) → z + 34 ≤ length lent
     → let m = (correcting_of f s lent).memory in
     (r : List ℕ) → Bytes r → z + 34 ≤ length r → get_or r 0 0 ≡ get_or m 0 0
     → let differing = apart (received z r) (received z m) in
     differing ≤ 16 → (e : List ℕ) → z + 32 ≤ length e
-    → ((correcting_of f s lent).answer ≡ Written.Accepted (z + 34)) × MendedAgain 16 f s m r e z differing
+    → ((correcting_of f s lent).answer ≡ Ok (z + 34)) × MendedAgain 16 f s m r e z differing
 sixteen_and_read f s room z n bytes accepted most lent there r b long first few e fits =
     let h = accepted-corrected f s room z n accepted most lent there in
     let same : (correcting_put f s lent (z + 34) h).z ≡ z = omega (arith, (correcting_put f s lent (z + 34) h).size) in
@@ -268,10 +267,10 @@ sixteen_and_read f s room z n bytes accepted most lent there r b long first few 
 -- ---- whatever was received
 
 pub taken_or_none :
-    (f : Format) (s d : List ℕ) (y : ℕ) → Bytes s → (proposing_of 16 f s d).answer ≡ Written.Accepted y
+    (f : Format) (s d : List ℕ) (y : ℕ) → Bytes s → (proposing_of 16 f s d).answer ≡ Ok y
     → let p = (proposing_of 16 f s d).memory in
-    ((k : ℕ) × ((k ≤ 16) × (proposal_of f p s ≡ Proposal.Taken k)))
-    ⊎ (proposal_of f p s ≡ Proposal.Refused Refusal.NotCode)
+    ((k : ℕ) × ((k ≤ 16) × (proposal_of f p s ≡ Ok k)))
+    ⊎ (proposal_of f p s ≡ Err Refusal.NotCode)
 taken_or_none f s d y bytes h =
     let m = (proposing_of 16 f s d).memory in
-    proposed_judged bytes (placed 16 f s d (ap (λ (a : Written). record { answer = a; memory = m }) (sym h)))
+    proposed_judged bytes (placed 16 f s d (ap (λ (a : Result ℕ Refusal). record { answer = a; memory = m }) (sym h)))

@@ -9,16 +9,15 @@ use native.Mathlib.Omega.{arith}
 use borrow.Author.Tests.{ltb-true, ltb-false}
 use lib.Dec.{ltb}
 use lib.ListN.{length, take}
+use Rattle.std.specs.Prelude.{Result, Ok, Err}
 use Rattle.answers.specs.declared.Refusal.{Refusal}
-use Rattle.answers.specs.declared.Written.{Written}
 use Rattle.answers.specs.Outcome.{leaving}
 use Rattle.ground.specs.Apart.{apart}
 use Rattle.ground.specs.Bytes.{Bytes}
 use Rattle.ground.proofs.CaseLaws.{by_test, zero_not_one}
 use Rattle.frame.specs.declared.Format.{Format}
 use Rattle.frame.specs.declared.Frame.{Frame}
-use Rattle.frame.specs.Formats.{frame_size}
-use Rattle.proposals.specs.declared.Proposal.{Proposal}
+use Rattle.frame.specs.Formats.{frame_size, sizes}
 use Rattle.proposals.specs.Received.{not_too_long, size_in, received}
 use Rattle.proposals.specs.Near.{is_code_block, Nearest, nearest_of}
 use Rattle.proposals.specs.Proposals.{compared, proposal_by, proposal_of, proposing_by, proposing_of}
@@ -28,35 +27,35 @@ use Rattle.proposals.proofs.ReceivedLaws.{length-received, bytes-received}
 use Rattle.proposals.proofs.ProposalLaws.{corrects_code, code_corrects}
 use Rattle.demands.specs.Rules.{Rule, ◌when◌else◌, given, Judged, JudgedLent}
 use Rattle.demands.specs.MendingLadders.{size_steps, compare_steps, judge_rule, propose_steps, propose_rule}
-use Rattle.demands.proofs.RuleLaws.{Follows, Tells, judged, judged_lent, taken_bare, passed_bare, follows_when, follows-lt, follows_unless, never_refused, written_refused}
+use Rattle.demands.proofs.RuleLaws.{Follows, Tells, judged, judged_lent, taken_bare, passed_bare, follows_when, follows-lt, follows_unless, never_refused, unchanged}
 use Rattle.demands.proofs.FrameRuleLaws.{size_follows}
 
 -- ---- the size: 1, 2, 23, then the rest
 
-module _ {B : Type 0} {refused : Refusal → B} (told : Frame → B)
-    (passes : (r : Refusal) → told (Frame.Refused r) ≡ refused r) where
+module _ {B : Type 0} {refused : Refusal → B} (told : Result Frame Refusal → B)
+    (passes : (r : Refusal) → told (Err r) ≡ refused r) where
   long_follows :
-      (z n : ℕ) (rest : Rule B) → (z ≤ 223 → Follows refused rest (told (Frame.Accepted z n)))
-      → Follows refused (23 when 223 < z else rest) (told (not_too_long (Frame.Accepted z n)))
+      (z n : ℕ) (rest : Rule B) → (z ≤ 223 → Follows refused rest (told (Ok (sizes z n))))
+      → Follows refused (23 when 223 < z else rest) (told (not_too_long (Ok (sizes z n))))
   unfolding not_too_long
   long_follows z n rest go = by (ltb 223 z) refl
     where
       by :
           (t : Bool) → ltb 223 z ≡ t
           → Follows refused (23 when 223 < z else rest)
-          (told (cond t (Frame.Refused Refusal.TooLong) (Frame.Accepted z n)))
+          (told (cond t (Err Refusal.TooLong) (Ok (sizes z n))))
       by true t =
           subst (Follows refused (23 when 223 < z else rest)) (sym (passes Refusal.TooLong))
           (taken_bare Refusal.TooLong (ltb-true 223 z t) refl refl)
       by false t = passed_bare (λ h. omega (arith, ltb-false 223 z t)) (go (ltb-false 223 z t))
 
-  passes_on : (r : Refusal) → told (not_too_long (Frame.Refused r)) ≡ refused r
+  passes_on : (r : Refusal) → told (not_too_long (Err r)) ≡ refused r
   unfolding not_too_long
   passes_on r = passes r
 
   sized_follows :
       (f : Format) (s : List ℕ) (rest : ℕ → Rule B)
-      → ((z n : ℕ) → z ≤ 223 → Follows refused (rest z) (told (Frame.Accepted z n)))
+      → ((z n : ℕ) → z ≤ 223 → Follows refused (rest z) (told (Ok (sizes z n))))
       → Follows refused (size_steps f s rest) (told (size_in f s))
   unfolding size_in
   sized_follows f [] rest go =
@@ -91,7 +90,7 @@ long_enough a b c d e =
 
 compared_follows :
     (z : ℕ) (p s : List ℕ) → Bytes p → z + 32 ≤ length p
-    → Follows Proposal.Refused (compare_steps z p s) (compared (received z s) (take (z + 32) p))
+    → Follows Err (compare_steps z p s) (compared (received z s) (take (z + 32) p))
 unfolding compared
 compared_follows z p s bytes whole =
     let c = take (z + 32) p in
@@ -102,7 +101,7 @@ compared_follows z p s bytes whole =
 
 judge_follows :
     (f : Format) (p : List ℕ) → Bytes p → (s : List ℕ)
-    → Follows Proposal.Refused (judge_rule f p s) (proposal_of f p s)
+    → Follows Err (judge_rule f p s) (proposal_of f p s)
 unfolding proposal_of proposal_by
 judge_follows f p bytes s =
     sized_follows (proposal_by p s) (λ r. refl) f p _
@@ -113,14 +112,14 @@ judge_follows f p bytes s =
 
 pub judge_judged :
     (f : Format) (p : List ℕ) → Bytes p → (s : List ℕ)
-    → Judged Proposal.Refused (judge_rule f p s) (proposal_of f p s)
+    → Judged Err (judge_rule f p s) (proposal_of f p s)
 judge_judged f p bytes s =
     judged (λ p q e. cc) (λ r w. zero_not_one (let e = w.1.1 in cc)) (judge_follows f p bytes s)
 
 -- ---- making a proposal
 
 refused_by :
-    (k : ℕ) (s d : List ℕ) (r : Refusal) → proposing_by k s d (Frame.Refused r) ≡ leaving (Written.Refused r) d
+    (k : ℕ) (s d : List ℕ) (r : Refusal) → proposing_by k s d (Err r) ≡ unchanged d r
 unfolding proposing_by
 refused_by k s d r = refl
 
@@ -133,7 +132,7 @@ nearest_follow k w few most bytes go =
     Follows.found (nearest_of k w) is (λ m also. nearest_only k w few most m (nearest_of k w) also is) go
 
 put_follows : (k z n : ℕ) → k ≤ 16 → z ≤ 223 → (s : List ℕ) → Bytes s → (d : List ℕ)
-    → Follows (λ r. leaving (Written.Refused r) d) (propose_steps k z s d) (proposing_by k s d (Frame.Accepted z n))
+    → Follows (unchanged d) (propose_steps k z s d) (proposing_by k s d (Ok (sizes z n)))
 unfolding proposing_by
 put_follows k z n few most s bytes d =
     follows-lt (length s) (z + 34) Refusal.Short refl refl
@@ -143,7 +142,7 @@ put_follows k z n few most s bytes d =
 
 propose_follows :
     (k : ℕ) → k ≤ 16 → (f : Format) (s : List ℕ) → Bytes s → (d : List ℕ)
-    → Follows (λ r. leaving (Written.Refused r) d) (propose_rule k f s d) (proposing_of k f s d)
+    → Follows (unchanged d) (propose_rule k f s d) (proposing_of k f s d)
 unfolding proposing_of
 propose_follows k few f s bytes d =
     sized_follows (proposing_by k s d) (refused_by k s d) f s (λ z. propose_steps k z s d)
@@ -151,7 +150,7 @@ propose_follows k few f s bytes d =
 
 pub propose_judged :
     (k : ℕ) → k ≤ 16 → (f : Format) (s : List ℕ) → Bytes s → (d : List ℕ)
-    → JudgedLent Written.Refused d (propose_rule k f s d) (proposing_of k f s d)
+    → JudgedLent Err d (propose_rule k f s d) (proposing_of k f s d)
 propose_judged k few f s bytes d =
-    judged_lent (λ p q e. cc) (λ x r a. never_refused written_refused x r a.1.1.1.1)
+    judged_lent (λ x r a. never_refused x r a.1.1.1.1)
     (propose_follows k few f s bytes d)

@@ -13,10 +13,10 @@ use Prim.Native.Nat.{ℕ, ◌≤◌, ◌<◌}
 use borrow.Author.Tests.{ltb-true, ltb-false}
 use native.Mathlib.Omega.{arith}
 use lib.Dec.{ltb}
+use Rattle.std.specs.Prelude.{Result, Ok, Err}
 use Rattle.answers.specs.Outcome.{Outcome, leaving}
 use Rattle.answers.specs.Refusals.{number_of, value_of}
 use Rattle.answers.specs.declared.Refusal.{Refusal}
-use Rattle.answers.specs.declared.Written.{Written}
 use Rattle.ground.proofs.CaseLaws.{zero_not_one}
 use Rattle.demands.specs.Rules.{Rule, ◌when◌else◌, ◌showing◌else◌, Gives, Passes, Accepts, Refuses, Judged, JudgedLent}
 
@@ -100,29 +100,31 @@ module _ {B : Type 0} {refused : Refusal → B} where
         ends = ladder_ends f;
       }
 
+-- a call that was lent the memory d, which a refusal leaves as it was
+abbrev pub unchanged : {A : Type 0} → List ℕ → Refusal → Outcome (Result A Refusal)
+unchanged d r = leaving (Err r) d
+
 pub judged_lent :
-    {A : Type 0} {refused : Refusal → A} {d : List ℕ} {rule : Rule (Outcome A)} {o : Outcome A}
-    → ((p q : Refusal) → refused p ≡ refused q → p ≡ q)
-    → ((x : Outcome A) (r : Refusal) → Accepts rule x → x.answer ≡ refused r → ⊥)
-    → Follows (λ r. leaving (refused r) d) rule o → JudgedLent refused d rule o
-judged_lent {A} {refused} {d} {rule} {o} same never f =
+    {A : Type 0} {d : List ℕ} {rule : Rule (Outcome (Result A Refusal))} {o : Outcome (Result A Refusal)}
+    → ((x : Outcome (Result A Refusal)) (r : Refusal) → Accepts rule x → x.answer ≡ Err r → ⊥)
+    → Follows (unchanged d) rule o → JudgedLent Err d rule o
+judged_lent {A} {d} {rule} {o} never f =
     record {
       judged =
-          judged (λ p q e. same p q (ap (λ (x : Outcome A). x.answer) e))
-          (λ r a. never (leaving (refused r) d) r a refl) f;
+          judged (λ p q e. let same = ap (λ (x : Outcome (Result A Refusal)). x.answer) e in cc)
+          (λ r a. never (unchanged d r) r a refl) f;
       harmless =
-          λ r e. ⊎_elim (λ (p : (q : Refusal) × (o ≡ leaving (refused q) d)). ap (λ (x : Outcome A). x.memory) p.1)
+          λ r e. ⊎_elim
+          (λ (p : (q : Refusal) × (o ≡ unchanged d q)). ap (λ (x : Outcome (Result A Refusal)). x.memory) p.1)
           (λ a. absurd (never o r a e)) (follows_ends f);
     }
 
 -- an outcome that is accepted with the answer a is no refusal
 pub never_refused :
-    {A : Type 0} {refused : Refusal → A} {a : A} {m : List ℕ} → ((r : Refusal) → a ≡ refused r → ⊥)
-    → (x : Outcome A) (r : Refusal) → x ≡ record { answer = a; memory = m } → x.answer ≡ refused r → ⊥
-never_refused {A} clash x r is e = clash r (ap (λ (o : Outcome A). o.answer) (sym is) ∙ e)
-
-pub written_refused : {size : ℕ} (r : Refusal) → Written.Accepted size ≡ Written.Refused r → ⊥
-written_refused r e = zero_not_one (cc)
+    {A : Type 0} {a : A} {m : List ℕ} (x : Outcome (Result A Refusal)) (r : Refusal) → x ≡ leaving (Ok a) m
+    → x.answer ≡ Err r → ⊥
+never_refused {A} x r is e =
+    zero_not_one (let clash = ap (λ (o : Outcome (Result A Refusal)). o.answer) (sym is) ∙ e in cc)
 
 pub record Tells (t : Bool) (P : Type 0) : Type 0 where
   pub yes : t ≡ true → P

@@ -8,7 +8,7 @@
 --     listed_alone        the one on the list is wanted, and the other is not
 --     entries_apart       where both are wanted, each has an entry of its own
 -- Assumes nothing.
-use mathlib.Core.Bool.{true}
+use mathlib.Core.Bool.{Bool, true, false}
 use mathlib.Core.List.{List, []}
 use mathlib.Core.Logic.{◌⊎◌, inl, inr}
 use mathlib.Core.Path.{◌≡◌, refl, sym, ◌∙◌, ap}
@@ -19,6 +19,8 @@ use lib.Bits.{bit_xor, xor_lt, xor_block, xor_zero_r}
 use lib.Dec.{ltb}
 use lib.ListN.{length, get_or, drop, length-set}
 use lib.Seq.{get_or-set_same, get_or-set_other}
+use Rattle.std.specs.Prelude.{Result, Ok, Err}
+use Rattle.answers.specs.declared.Refusal.{Refusal}
 use Rattle.ground.specs.Bytes.{Bytes}
 use Rattle.ground.proofs.ByteLaws.{bytes_take, bytes_drop, bytes-set}
 use Rattle.ground.proofs.CaseLaws.{by_test, zero_not_one}
@@ -27,11 +29,9 @@ use Rattle.address.specs.Keys.{key_bytes, key_at}
 use Rattle.address.proofs.NameLaws.{length_name_of, get_or_name_of}
 use Rattle.address.proofs.MakerLaws.{turned_none}
 use Rattle.header.specs.declared.layout.Header.{Header}
-use Rattle.header.specs.declared.reading.HeaderReading.{HeaderReading}
 use Rattle.header.specs.Layout.{addressed}
 use Rattle.header.specs.HeaderReads.{header_reading_of}
 use Rattle.header.proofs.HeaderReadsLaws.{header_reading_of_whole}
-use Rattle.filter.specs.declared.Verdict.{Verdict}
 use Rattle.demands.specs.Rules.{Gives, Passes, Judged}
 use Rattle.demands.specs.Cases.{InUse}
 use Rattle.demands.specs.TopBit.{top_turned}
@@ -78,7 +78,7 @@ keys_differ received s bytes long e =
     names_differ s (omega arith) (sym name ∙ ap key_bytes e ∙ other)
 
 pub receiver_place_lem :
-    (s : List ℕ) (h : Header) (n : ℕ) → header_reading_of s ≡ HeaderReading.Accepted h n → addressed h.kind ≡ true
+    (s : List ℕ) (h : Header) (n : ℕ) → header_reading_of s ≡ Ok (h, n) → addressed h.kind ≡ true
     → h.receiver.m ≡ two_at s 3
 receiver_place_lem s h n e a =
     let w = header_reading_of_whole s e in
@@ -86,14 +86,14 @@ receiver_place_lem s h n e a =
     ap (λ (g : Header). g.receiver.m) (sym w.header) ∙ rw kind
 
 module _
-    (filter : List (List ℕ) → ℕ → List ℕ → Verdict) (promise :
+    (filter : List (List ℕ) → ℕ → List ℕ → Result Bool Refusal) (promise :
     (es : List (List ℕ)) (n : ℕ) (s : List ℕ) → length es ≡ 16
-    → Judged Verdict.Refused (filter_rule es n s) (filter es n s))
+    → Judged Err (filter_rule es n s) (filter es n s))
     (es : List (List ℕ)) (n : ℕ) (sixteen : length es ≡ 16) where
   abbrev Says : List ℕ → Type 0
   Says s =
-      (InUse es n (name_of s) × (filter es n s ≡ Verdict.Wanted))
-      ⊎ ((InUse es n (name_of s) → ⊥) × (filter es n s ≡ Verdict.Unwanted))
+      (InUse es n (name_of s) × (filter es n s ≡ Ok true))
+      ⊎ ((InUse es n (name_of s) → ⊥) × (filter es n s ≡ Ok false))
 
   says : (s : List ℕ) → n ≤ 16 → 9 ≤ length s → Says s
   says s few long =
@@ -102,19 +102,19 @@ module _
   module _ (s : List ℕ) (long : 9 ≤ length s) where
     pub listed_alone :
         n ≤ 16 → InUse es n (name_of s) → (InUse es n (name_of (top_turned s)) → ⊥)
-        → (filter es n s ≡ Verdict.Wanted) × (filter es n (top_turned s) ≡ Verdict.Unwanted)
+        → (filter es n s ≡ Ok true) × (filter es n (top_turned s) ≡ Ok false)
     listed_alone few here gone = (one (says s few long), other (says (top_turned s) few (turned_long s long)))
       where
-        one : Says s → filter es n s ≡ Verdict.Wanted
+        one : Says s → filter es n s ≡ Ok true
         one (inl h) = h.1
         one (inr h) = absurd (h.0 here)
 
-        other : Says (top_turned s) → filter es n (top_turned s) ≡ Verdict.Unwanted
+        other : Says (top_turned s) → filter es n (top_turned s) ≡ Ok false
         other (inl h) = absurd (gone h.0)
         other (inr h) = h.1
 
   -- what is wanted is long enough, and an entry in use is its name
-  wanted_in_use : (s : List ℕ) → filter es n s ≡ Verdict.Wanted → (9 ≤ length s) × InUse es n (name_of s)
+  wanted_in_use : (s : List ℕ) → filter es n s ≡ Ok true → (9 ≤ length s) × InUse es n (name_of s)
   wanted_in_use s e = by (promise es n s sixteen).ends
     where
       at_least : Passes (filter_rule es n s) → 9 ≤ length s
@@ -135,7 +135,7 @@ module _
       by (inr p) = (at_least p, there ((promise es n s sixteen).accepted_exactly.1 p))
 
   pub entries_apart :
-      (s : List ℕ) → filter es n s ≡ Verdict.Wanted → filter es n (top_turned s) ≡ Verdict.Wanted
+      (s : List ℕ) → filter es n s ≡ Ok true → filter es n (top_turned s) ≡ Ok true
       → (i : ℕ) × ((j : ℕ) × ((i ≡ j → ⊥) × (((i < n) × (get_or es i [] ≡ name_of s))
       × ((j < n) × (get_or es j [] ≡ name_of (top_turned s))))))
   entries_apart s one other =

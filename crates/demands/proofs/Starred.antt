@@ -3,19 +3,19 @@
 use mathlib.Core.List.{List, [], ◌∷◌}
 use mathlib.Core.Path.{◌≡◌, refl}
 use Prim.Native.Nat.{ℕ}
+use Rattle.std.specs.Prelude.{Result, Ok, Err, Option, Some, None}
+use Rattle.answers.specs.declared.Refusal.{Refusal}
 use Rattle.line.specs.declared.codes.Code.TheVariants.{ThreeOfSix, Manchester}
 use Rattle.line.specs.Codes.{code_of}
 use Rattle.line.specs.Encoding.{encoding}
 use Rattle.chips.specs.Chips.{gather}
 use Rattle.chips.specs.Packing.{packed, tabulate}
 use Rattle.crc.specs.Check.{bit_in, bits_in, byte_in, reg_of, check_of}
-use Rattle.crc.specs.declared.Updated.{Updated}
 use Rattle.crc.specs.CheckUpdate.{share_of, updating}
 use Rattle.frame.specs.declared.Format.{Format}
 use Rattle.frame.specs.Formats.{form_of, frame_size}
 use Rattle.blocks.specs.Spans.{cut, size_of}
 use Rattle.header.specs.AccessBits.{access_of, access_row}
-use Rattle.address.specs.declared.Spelling.{Spelling}
 use Rattle.address.specs.Makers.{maker_of}
 
 -- L and the size of a frame whose content has n bytes
@@ -23,13 +23,13 @@ abbrev sizes : Format → ℕ → List ℕ
 sizes f n = (form_of f).length_byte n ∷ frame_size f n ∷ []
 
 -- what an answer returns, nothing where it is no acceptance
-abbrev check_row : Updated → List ℕ
-check_row (Updated.Accepted c) = c ∷ []
-check_row (Updated.Refused r) = []
+abbrev check_row : Result ℕ Refusal → List ℕ
+check_row (Ok c) = c ∷ []
+check_row (Err r) = []
 
-abbrev letter_row : Spelling → List ℕ
-letter_row (Spelling.Three a b c) = a ∷ b ∷ c ∷ []
-letter_row Spelling.NoLetters = []
+abbrev letter_row : Option (ℕ × ℕ × ℕ) → List ℕ
+letter_row (Some (a, b, c)) = a ∷ b ∷ c ∷ []
+letter_row None = []
 
 pub got : List (List ℕ)
 got =

@@ -13,12 +13,12 @@ use borrow.Author.Tests.{ltb-false}
 use lib.Dec.{ltb}
 use lib.ListN.{length, take, drop}
 use lib.Seq.{take-append_seam}
+use Rattle.std.specs.Prelude.{Result, Ok, Err}
 use Rattle.answers.specs.declared.Refusal.{Refusal}
-use Rattle.answers.specs.declared.Written.{Written}
 use Rattle.answers.specs.Outcome.{Outcome, leaving}
 use Rattle.ground.specs.Bytes.{Bytes}
 use Rattle.ground.proofs.CaseLaws.{by_test, zero_not_one}
-use Rattle.sessions.specs.Meters.{Store, Result, Refuse, Keep, holds}
+use Rattle.sessions.specs.Meters.{Store, holds}
 use Rattle.sessions.specs.Changes.{empty_store, restored, restored_by}
 use Rattle.sessions.specs.StoreFile.{bytes_of, size_of, memory_size, memory_of, file_of}
 use Rattle.sessions.specs.StoreCalls.{◌and_then◌, leaves, kept, emptying, copied, writing_store, restoring, found}
@@ -35,12 +35,12 @@ use Rattle.demands.proofs.StorePutLaws.{restored-restores}
 
 -- a copy that was accepted begins with the store's bytes
 module _ (st : Store) (d : List ℕ) (size : ℕ) where
-  abbrev copy : Bool → Outcome Written
+  abbrev copy : Bool → Outcome (Result ℕ Refusal)
   copy t =
-      cond t (leaving (Written.Refused Refusal.NoRoom) d)
-      (record { answer = Written.Accepted (size_of st); memory = leaves st d })
+      cond t (leaving (Err Refusal.NoRoom) d)
+      (record { answer = Ok (size_of st); memory = leaves st d })
 
-  copy_begins : (t : Bool) → (copy t).answer ≡ Written.Accepted size → take size (copy t).memory ≡ bytes_of st
+  copy_begins : (t : Bool) → (copy t).answer ≡ Ok size → take size (copy t).memory ≡ bytes_of st
   copy_begins true e = absurd (zero_not_one (cc))
   copy_begins false e =
       let same : size_of st ≡ size = cc in
@@ -67,7 +67,7 @@ empty_store_none s room a m e =
     zero_not_one (let is = ap (found a) (memory_of_leaves s empty_store_valid room) in cc)
 
 pub emptying_within :
-    (s : List ℕ) (size : ℕ) → Bytes s → (emptying s).answer ≡ Written.Accepted size
+    (s : List ℕ) (size : ℕ) → Bytes s → (emptying s).answer ≡ Ok size
     → Within (emptying s).memory empty_store × NoneHeld (emptying s).memory
 emptying_within s size bytes e =
     by_test (ltb (length s) memory_size) (λ t. absurd (zero_not_one (let no = rw t at e in cc)))
@@ -75,12 +75,12 @@ emptying_within s size bytes e =
     rw t (leaves_within s empty_store bytes room empty_store_valid, empty_store_none s room))
 
 module _ (s : List ℕ) (st : Store) (bytes : Bytes s) (w : Within s st) where
-  is : memory_of s ≡ Keep st
+  is : memory_of s ≡ Ok st
   is = (memory_of_exactly s st bytes).1 w
 
   pub written_read :
-      (d : List ℕ) (size : ℕ) → (writing_store s d).answer ≡ Written.Accepted size
-      → file_of (take size (writing_store s d).memory) ≡ Keep st
+      (d : List ℕ) (size : ℕ) → (writing_store s d).answer ≡ Ok size
+      → file_of (take size (writing_store s d).memory) ≡ Ok st
   written_read d size e =
       let same = ap (λ r. copied r d) is in
       let begins = copy_begins st d size (ltb (length d) (size_of st)) (rw same at e) in
@@ -90,20 +90,20 @@ module _ (s : List ℕ) (st : Store) (bytes : Bytes s) (w : Within s st) where
     abbrev new : Store
     new = record { meters = restored st.meters file.meters; allowance = file.allowance }
 
-    abbrev told : Result → Outcome Written
-    told r = kept Written.Refused (λ x. Written.Accepted (size_of x)) s r
+    abbrev told : Result Store Refusal → Outcome (Result ℕ Refusal)
+    told r = kept Err (λ x. Ok (size_of x)) s r
 
     restored-accepted :
         (t : Bool) → ltb 64 (length new.meters) ≡ t
-        → let o = told (cond t (Refuse Refusal.StoreFull) (Keep new)) in
-        o.answer ≡ Written.Accepted size → (x : Store) × (Within o.memory x × Restores st file x)
+        → let o = told (cond t (Err Refusal.StoreFull) (Ok new)) in
+        o.answer ≡ Ok size → (x : Store) × (Within o.memory x × Restores st file x)
     restored-accepted true e a = absurd (zero_not_one (cc))
     restored-accepted false e a =
         let valid = restored_by_valid st new w.valid file p.valid (rw e) in
         (new, (leaves_within s new bytes w.room valid, restored-restores st file w.valid p.valid))
 
     pub restoring-restores :
-        (restoring f s).answer ≡ Written.Accepted size
+        (restoring f s).answer ≡ Ok size
         → (x : Store) × (Within (restoring f s).memory x × Restores st file x)
     restoring-restores a =
         let held = ap (λ r. told (r and_then (λ x. file_of f and_then (λ b. restored_by b x)))) is in
@@ -111,10 +111,10 @@ module _ (s : List ℕ) (st : Store) (bytes : Bytes s) (w : Within s st) where
         rw same (restored-accepted (ltb 64 (length new.meters)) refl (rw same at a))
 
   left_within :
-      (r : Result) → ((x : Store) → r ≡ Keep x → Valid x)
+      (r : Result Store Refusal) → ((x : Store) → r ≡ Ok x → Valid x)
       → Bytes (left s r) × ((x : Store) × Within (left s r) x)
-  left_within (Refuse why) valid = (bytes, (st, w))
-  left_within (Keep x) valid =
+  left_within (Err why) valid = (bytes, (st, w))
+  left_within (Ok x) valid =
       let v = valid x refl in (bytes_leaves s v bytes, (x, leaves_within s x bytes w.room v))
 
   after_within : (c : Call) → InRange c → Bytes (after s c) × ((x : Store) × Within (after s c) x)

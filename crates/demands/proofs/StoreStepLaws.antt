@@ -14,11 +14,12 @@ use native.Mathlib.Omega.{arith}
 use borrow.Author.Tests.{eqb-true, eqb-false}
 use lib.Dec.{eqb}
 use lib.ListN.{length, get_or}
+use Rattle.std.specs.Prelude.{Result, Ok, Err}
 use Rattle.answers.specs.declared.Refusal.{Refusal}
 use Rattle.answers.specs.Refusals.{number_of, value_of}
 use Rattle.ground.specs.Bytes.{Bytes}
 use Rattle.sessions.specs.declared.Meter.{Meter}
-use Rattle.sessions.specs.Meters.{Store, Result, Refuse, Keep, meter_of, holds}
+use Rattle.sessions.specs.Meters.{Store, meter_of, holds}
 use Rattle.sessions.specs.StoreFile.{file_of, memory_of}
 use Rattle.sessions.specs.Valid.{Valid, Within, IsFile}
 use Rattle.sessions.proofs.ExactLaws.{memory_of_exactly, file_of_exactly, within_only, file_only}
@@ -33,20 +34,20 @@ either_way : {P : Type 1} (t : Bool) → (t ≡ true → P) → (t ≡ false →
 either_way true f g = f refl
 either_way false f g = g refl
 
-module _ {B : Type 0} {refused : Refusal → B} (told : Result → B)
-    (passes : (r : Refusal) → told (Refuse r) ≡ refused r) where
+module _ {B : Type 0} {refused : Refusal → B} (told : Result Store Refusal → B)
+    (passes : (r : Refusal) → told (Err r) ≡ refused r) where
   -- a refusal that was read is handed on
   refusing :
-      {n : ℕ} {case : Type 0} {rest : Rule B} {r : Result} (why : Refusal) → r ≡ Refuse why → case → number_of why ≡ n
-      → value_of why ≡ 0 → Follows refused (n when case else rest) (told r)
+      {n : ℕ} {case : Type 0} {rest : Rule B} {r : Result Store Refusal} (why : Refusal) → r ≡ Err why → case
+      → number_of why ≡ n → value_of why ≡ 0 → Follows refused (n when case else rest) (told r)
   refusing {n} {case} {rest} why e holds number value =
       subst (Follows refused (n when case else rest)) (sym (ap told e ∙ passes why)) (taken_bare why holds number value)
 
   -- 17 where no store was read; else the rest, knowing that P holds of the one that was, and of it alone
   kept_follows :
-      {P : Store → Type 0} {rest : Store → Rule B} {r : Result}
-      → ((st : Store) → P st → Follows refused (rest st) (told (Keep st))) → ((st : Store) → r ≡ Keep st → Only P st)
-      → (r ≡ Refuse Refusal.BadStore → (st : Store) → P st → ⊥) → BadOrKept r
+      {P : Store → Type 0} {rest : Store → Rule B} {r : Result Store Refusal}
+      → ((st : Store) → P st → Follows refused (rest st) (told (Ok st))) → ((st : Store) → r ≡ Ok st → Only P st)
+      → (r ≡ Err Refusal.BadStore → (st : Store) → P st → ⊥) → BadOrKept r
       → Follows refused (17 when ((st : Store) → P st → ⊥) else given P rest) (told r)
   kept_follows go only none (inl e) = refusing Refusal.BadStore e (none e) refl refl
   kept_follows go only none (inr (st, e)) =
@@ -54,7 +55,7 @@ module _ {B : Type 0} {refused : Refusal → B} (told : Result → B)
       rw e (passed_bare (λ all. all st p.0) (Follows.found st p.0 p.1 (go st p.0)))
 
   module _ (s : List ℕ) (bytes : Bytes s) (rest : Store → Rule B)
-      (go : (st : Store) → Within s st → Follows refused (rest st) (told (Keep st))) where
+      (go : (st : Store) → Within s st → Follows refused (rest st) (told (Ok st))) where
     -- version 2: the rest of 17
     two_follows :
         0 < length s → get_or s 0 0 ≡ 2
@@ -79,7 +80,7 @@ module _ {B : Type 0} {refused : Refusal → B} (told : Result → B)
         (λ e. let some = eqb-false (length s) 0 e in passed_bare some (version_follows (omega (arith, some))))
 
   module _ (f : List ℕ) (bytes : Bytes f) (rest : Store → Rule B)
-      (go : (file : Store) → IsFile f file → Follows refused (rest file) (told (Keep file))) where
+      (go : (file : Store) → IsFile f file → Follows refused (rest file) (told (Ok file))) where
     -- a version that is read: the rest of 17
     known_follows :
         0 < length f → (get_or f 0 0 ≡ 1) ⊎ (get_or f 0 0 ≡ 2)

@@ -2,22 +2,22 @@
 -- too: `told` makes of their answer what the call answers, and hands on a refusal as it is.
 use mathlib.Core.Bool.{Bool, true, false, cond}
 use mathlib.Core.List.{List}
-use mathlib.Core.Path.{◌≡◌, refl, sym, ◌∙◌, subst}
+use mathlib.Core.Path.{◌≡◌, refl, sym, ◌∙◌, ap₂, subst}
 use Prim.Native.Nat.{ℕ, ◌+◌, ◌-◌, ◌^◌, ◌/◌, ◌≤◌}
 use native.Mathlib.Omega.{arith}
 use borrow.Author.Tests.{ltb-true, ltb-false, eqb-true, eqb-false}
 use lib.Dec.{ltb, eqb}
 use lib.ListN.{length}
+use Rattle.std.specs.Prelude.{Result, Ok, Err}
 use Rattle.answers.specs.declared.Refusal.{Refusal}
 use Rattle.ground.proofs.CaseLaws.{zero_not_one}
 use Rattle.chips.specs.Chips.{chip_at, word_at, chip_count, in_range, room_limit}
 use Rattle.chips.proofs.GatherLaws.{gather-add, gather-lt, chip_at-lt}
 use Rattle.chips.proofs.RangeLaws.{InBuffer, in_range_true, in_range_inside}
+use Rattle.sync.specs.declared.Found.{Found}
 use Rattle.sync.specs.declared.Kind.{Kind}
-use Rattle.sync.specs.declared.Sync.{Sync}
-use Rattle.sync.specs.declared.Tail.{Tail}
 use Rattle.sync.specs.FirstMatch.{FirstAt}
-use Rattle.sync.specs.SyncSearch.{positions, search_of}
+use Rattle.sync.specs.SyncSearch.{positions, search_of, found}
 use Rattle.sync.specs.Tails.{kind_for, tail_of}
 use Rattle.sync.proofs.TailLaws.{TailFits, kind_for_fits, fits-kind_for, kind_for_unknown, tail_of_outside}
 use Rattle.sync.proofs.SearchLaws.{Ends, search_for_ends, gone, nowhere_passed, passed-lt_first}
@@ -25,23 +25,16 @@ use Rattle.demands.specs.Rules.{Rule, ◌showing◌else◌, given, accept, Judge
 use Rattle.demands.specs.Cases.{NoSyncIn, UnknownTail, TailIs}
 use Rattle.demands.specs.Ladders.{search_steps, search_rule, tail_steps, tail_rule}
 use Rattle.demands.proofs.RuleLaws.{Follows, judged, taken_bare, taken_showing, passed_bare, tells-lt}
-use Rattle.demands.proofs.CaseLaws.{range_kept, range_left}
-
--- a pair is its two parts
-pair_same : (u v : ℕ × ℕ) → u.0 ≡ v.0 → u.1 ≡ v.1 → u ≡ v
-pair_same (a, b) (c, d) p q = rw (p, q)
+use Rattle.demands.proofs.CaseLaws.{range_kept, range_left, first_same}
 
 -- two matches that are both the first are one
-first_same :
+same_match :
     {s : List ℕ} {start a j t k u : ℕ} → FirstAt 0x543D 16 s start a j t → FirstAt 0x543D 16 s start a k u
     → (j ≡ k) × (t ≡ u)
-first_same {s} {start} {a} {j} {t} {k} {u} p q = by (ltb j k) (ltb k j) refl refl where
-  by : (b c : Bool) → ltb j k ≡ b → ltb k j ≡ c → (j ≡ k) × (t ≡ u)
-  by true c e h = absurd (q.first j p.behind (ltb-true j k e) p.stands)
-  by false true e h = absurd (p.first k q.behind (ltb-true k j h) q.stands)
-  by false false e h =
-      let same : j ≡ k = omega (arith, ltb-false j k e, ltb-false k j h) in
-      (same, omega (arith, p.counted, q.counted))
+same_match {s} {start} p q =
+    let same = first_same {P = λ i. start ≤ i → word_at s i 16 ≡ 0x543D → ⊥} (λ none. none p.behind p.stands)
+    (λ i l from. p.first i from l) (λ none. none q.behind q.stands) (λ i l from. q.first i from l) in
+    (same, omega (arith, p.counted, q.counted, same))
 
 -- where the word stands first, it is missing from no run of places that reaches so far
 first_there :
@@ -50,35 +43,35 @@ first_there {start = start} {k = k} f m l none =
     let here : start + (k - start) ≡ k = omega (arith, f.behind) in
     none (k - start) (omega (arith, f.counted)) (rw here f.stands)
 
-module _ {B : Type 0} {refused : Refusal → B} (told : Sync → B)
-    (passes : (r : Refusal) → told (Sync.Refused r) ≡ refused r) (s : List ℕ) (start a : ℕ)
-    (found : ℕ → ℕ → Rule B) where
-  abbrev Ladder : Sync → Type 1
-  Ladder x = Follows refused (search_steps s start a found) (told x)
+module _ {B : Type 0} {refused : Refusal → B} (told : Result Found Refusal → B)
+    (passes : (r : Refusal) → told (Err r) ≡ refused r) (s : List ℕ) (start a : ℕ)
+    (matched : ℕ → ℕ → Rule B) where
+  abbrev Ladder : Result Found Refusal → Type 1
+  Ladder x = Follows refused (search_steps s start a matched) (told x)
 
   -- what follows from a match
   abbrev Matched : Type 1
   Matched =
       (k t : ℕ) → InBuffer s start → FirstAt 0x543D 16 s start a k t
-      → Follows refused (found k t) (told (Sync.Found k t))
+      → Follows refused (matched k t) (told (Ok (found k t)))
 
   -- the word stands at none of the first m places, where all of them were passed over
   none_passed : (m : ℕ) → m ≤ gone 0x543D 16 s start a → NoSyncIn s start m
   none_passed m l i h = nowhere_passed 0x543D 16 s start a (start + i) (omega arith) (omega arith)
 
-  refused_there : (r : Refusal) → Follows refused (search_steps s start a found) (refused r) → Ladder (Sync.Refused r)
-  refused_there r = subst (Follows refused (search_steps s start a found)) (sym (passes r))
+  refused_there : (r : Refusal) → Follows refused (search_steps s start a matched) (refused r) → Ladder (Err r)
+  refused_there r = subst (Follows refused (search_steps s start a matched)) (sym (passes r))
 
   first_follows :
       in_range s start ≡ true → (k t : ℕ) → FirstAt 0x543D 16 s start a k t
-      → Follows refused (found k t) (told (Sync.Found k t)) → Ladder (Sync.Found k t)
+      → Follows refused (matched k t) (told (Ok (found k t))) → Ladder (Ok (found k t))
   first_follows inside k t f rest =
       passed_bare (range_kept s start inside)
       (Follows.passed (λ w h. first_there f (positions 16 s start) (omega (arith, f)) h.1.1)
       (Follows.passed (λ w h. first_there f a f.allowed h.1.1)
-      (Follows.found (k, t) f (λ u g. let same = first_same g f in pair_same u (k, t) same.0 same.1) rest)))
+      (Follows.found (k, t) f (λ u g. let same = same_match g f in ap₂ (λ (x y : ℕ). (x, y)) same.0 same.1) rest)))
 
-  search_ends : Matched → (x : Sync) → Ends 0x543D 16 s start a x → Ladder x
+  search_ends : Matched → (x : Result Found Refusal) → Ends 0x543D 16 s start a x → Ladder x
   search_ends go x (Ends.outside e) =
       refused_there Refusal.OutOfRange (taken_bare Refusal.OutOfRange (range_left s start e) refl refl)
   search_ends go x (Ends.stops inside l) =
@@ -97,10 +90,10 @@ module _ {B : Type 0} {refused : Refusal → B} (told : Sync → B)
   pub search_follows : Matched → Ladder (search_of s start a)
   search_follows go = search_ends go (search_of s start a) (search_for_ends 0x543D 16 s start a)
 
-pub search_judged : (s : List ℕ) (start a : ℕ) → Judged Sync.Refused (search_rule s start a) (search_of s start a)
+pub search_judged : (s : List ℕ) (start a : ℕ) → Judged Err (search_rule s start a) (search_of s start a)
 search_judged s start a =
     judged (λ p q e. cc) (λ r w. zero_not_one (let e = w.1.1 in cc))
-    (search_follows (λ x. x) (λ r. refl) s start a (λ k t. accept (λ r. r ≡ Sync.Found k t))
+    (search_follows (λ x. x) (λ r. refl) s start a (λ k t. accept (λ r. r ≡ Ok (found k t)))
     (λ k t within f. Follows.ended refl))
 
 -- the first six of sixteen chips
@@ -113,7 +106,7 @@ word_at_six s at =
 -- a tail that is unknown begins no frame
 unknown_begins :
     {s : List ℕ} {place : ℕ} {k : Kind} → UnknownTail s place
-    → kind_for place (word_at s (place + 16) 16) ≡ Tail.Begins k → ⊥
+    → kind_for place (word_at s (place + 16) 16) ≡ Ok k → ⊥
 unknown_begins {s} {place} u e =
     let begins = word_at_six s (place + 16) ∙ u.begins in
     let clash = sym (kind_for_unknown place (word_at s (place + 16) 16) u.not_a u.not_b begins) ∙ e in
@@ -121,19 +114,19 @@ unknown_begins {s} {place} u e =
 
 -- the one refusal that a tail gives, and when
 kind_for_only :
-    (k t : ℕ) (r : Refusal) → kind_for k t ≡ Tail.Refused r → kind_for k t ≡ Tail.Refused (Refusal.UnknownTail k)
+    (k t : ℕ) (r : Refusal) → kind_for k t ≡ Err r → kind_for k t ≡ Err (Refusal.UnknownTail k)
 kind_for_only k t r = by (eqb t 0x54CD) (eqb t 0x543D) (eqb (t / 2 ^ 10) 0b010101) where
   by :
-      (a b c : Bool) → let x = cond a (Tail.Begins Kind.CWithA) (cond b (Tail.Begins Kind.CWithB)
-      (cond c (Tail.Refused (Refusal.UnknownTail k)) (Tail.Begins Kind.TWithA))) in
-      x ≡ Tail.Refused r → x ≡ Tail.Refused (Refusal.UnknownTail k)
+      (a b c : Bool) → let x = cond a (Ok Kind.CWithA) (cond b (Ok Kind.CWithB)
+      (cond c (Err (Refusal.UnknownTail k)) (Ok Kind.TWithA))) in
+      x ≡ Err r → x ≡ Err (Refusal.UnknownTail k)
   by true b c e = absurd (zero_not_one (cc))
   by false true c e = absurd (zero_not_one (cc))
   by false false true e = refl
   by false false false e = absurd (zero_not_one (cc))
 
 kind_for_refused :
-    (s : List ℕ) (k : ℕ) → kind_for k (word_at s (k + 16) 16) ≡ Tail.Refused (Refusal.UnknownTail k)
+    (s : List ℕ) (k : ℕ) → kind_for k (word_at s (k + 16) 16) ≡ Err (Refusal.UnknownTail k)
     → UnknownTail s k
 kind_for_refused s k = by (eqb t 0x54CD) (eqb t 0x543D) (eqb (t / 2 ^ 10) 0b010101) refl refl refl where
   t : ℕ
@@ -141,8 +134,8 @@ kind_for_refused s k = by (eqb t 0x54CD) (eqb t 0x543D) (eqb (t / 2 ^ 10) 0b0101
 
   by :
       (a b c : Bool) → eqb t 0x54CD ≡ a → eqb t 0x543D ≡ b → eqb (t / 2 ^ 10) 0b010101 ≡ c
-      → cond a (Tail.Begins Kind.CWithA) (cond b (Tail.Begins Kind.CWithB)
-      (cond c (Tail.Refused (Refusal.UnknownTail k)) (Tail.Begins Kind.TWithA))) ≡ Tail.Refused (Refusal.UnknownTail k)
+      → cond a (Ok Kind.CWithA) (cond b (Ok Kind.CWithB)
+      (cond c (Err (Refusal.UnknownTail k)) (Ok Kind.TWithA))) ≡ Err (Refusal.UnknownTail k)
       → UnknownTail s k
   by true b c p q r e = absurd (zero_not_one (cc))
   by false true c p q r e = absurd (zero_not_one (cc))
@@ -154,8 +147,8 @@ kind_for_refused s k = by (eqb t 0x54CD) (eqb t 0x543D) (eqb (t / 2 ^ 10) 0b0101
       }
   by false false false p q r e = absurd (zero_not_one (cc))
 
-module _ {B : Type 0} {refused : Refusal → B} (told : Tail → B)
-    (passes : (r : Refusal) → told (Tail.Refused r) ≡ refused r) (s : List ℕ) (place : ℕ) (begins : Kind → Rule B) where
+module _ {B : Type 0} {refused : Refusal → B} (told : Result Kind Refusal → B)
+    (passes : (r : Refusal) → told (Err r) ≡ refused r) (s : List ℕ) (place : ℕ) (begins : Kind → Rule B) where
   abbrev tail : ℕ
   tail = word_at s (place + 16) 16
 
@@ -172,9 +165,9 @@ module _ {B : Type 0} {refused : Refusal → B} (told : Tail → B)
   tail_fits Kind.ManchesterWithA e = e
 
   -- a tail tells one kind
-  tail_same : (k j : Kind) → kind_for place tail ≡ Tail.Begins k → TailIs s place j → j ≡ k
+  tail_same : (k j : Kind) → kind_for place tail ≡ Ok k → TailIs s place j → j ≡ k
   tail_same k j e h =
-      let told : Tail.Begins j ≡ Tail.Begins k = sym (fits-kind_for place tail j (fits_tail j h)) ∙ e in
+      let told : Ok j ≡ Ok k = sym (fits-kind_for place tail j (fits_tail j h)) ∙ e in
       cc
 
   -- what the sixteen chips decide: 8, or the kind
@@ -182,30 +175,30 @@ module _ {B : Type 0} {refused : Refusal → B} (told : Tail → B)
   kind_steps = 8 showing (λ p. (p ≡ place) × UnknownTail s place) else given (TailIs s place) begins
 
   kind_begins :
-      (k : Kind) → kind_for place tail ≡ Tail.Begins k → Follows refused (begins k) (told (Tail.Begins k))
-      → Follows refused kind_steps (told (Tail.Begins k))
+      (k : Kind) → kind_for place tail ≡ Ok k → Follows refused (begins k) (told (Ok k))
+      → Follows refused kind_steps (told (Ok k))
   kind_begins k e rest =
       Follows.passed (λ w (h : (w ≡ place) × UnknownTail s place). unknown_begins h.1 e)
       (Follows.found k (tail_fits k (kind_for_fits place tail k e)) (λ j h. tail_same k j e h) rest)
 
-  kind_unknown : UnknownTail s place → Follows refused kind_steps (told (Tail.Refused (Refusal.UnknownTail place)))
+  kind_unknown : UnknownTail s place → Follows refused kind_steps (told (Err (Refusal.UnknownTail place)))
   kind_unknown u =
       subst (Follows refused kind_steps) (sym (passes (Refusal.UnknownTail place)))
       (Follows.taken (Refusal.UnknownTail place) refl (refl, u) (λ w h. h.0))
 
   abbrev Goes : Type 1
-  Goes = (k : Kind) → kind_for place tail ≡ Tail.Begins k → Follows refused (begins k) (told (Tail.Begins k))
+  Goes = (k : Kind) → kind_for place tail ≡ Ok k → Follows refused (begins k) (told (Ok k))
 
-  abbrev unknown_tail : Tail
-  unknown_tail = Tail.Refused (Refusal.UnknownTail place)
+  abbrev unknown_tail : Result Kind Refusal
+  unknown_tail = Err (Refusal.UnknownTail place)
 
   kind_told :
-      Goes → (x : Tail) → kind_for place tail ≡ x → (x ≡ unknown_tail → UnknownTail s place)
-      → ((r : Refusal) → x ≡ Tail.Refused r → x ≡ unknown_tail) → Follows refused kind_steps (told x)
-  kind_told go (Tail.Begins k) e unknown only = kind_begins k e (go k e)
-  kind_told go (Tail.Refused r) e unknown only =
+      Goes → (x : Result Kind Refusal) → kind_for place tail ≡ x → (x ≡ unknown_tail → UnknownTail s place)
+      → ((r : Refusal) → x ≡ Err r → x ≡ unknown_tail) → Follows refused kind_steps (told x)
+  kind_told go (Ok k) e unknown only = kind_begins k e (go k e)
+  kind_told go (Err r) e unknown only =
       let is = only r refl in
-      subst (λ (x : Tail). Follows refused kind_steps (told x)) (sym is) (kind_unknown (unknown is))
+      subst (λ (x : Result Kind Refusal). Follows refused kind_steps (told x)) (sym is) (kind_unknown (unknown is))
 
   kind_follows : Goes → Follows refused kind_steps (told (kind_for place tail))
   kind_follows go =
@@ -222,7 +215,7 @@ module _ {B : Type 0} {refused : Refusal → B} (told : Tail → B)
       by :
           (t : Bool) → ltb (chip_count s) (place + 32) ≡ t
           → Follows refused (tail_steps s place begins)
-          (told (cond t (Tail.Refused Refusal.Short) (kind_for place tail)))
+          (told (cond t (Err Refusal.Short) (kind_for place tail)))
       by true e =
           subst (Follows refused (tail_steps s place begins)) (sym (passes Refusal.Short))
           (taken_bare Refusal.Short (ltb-true (chip_count s) (place + 32) e) refl refl)
@@ -230,16 +223,16 @@ module _ {B : Type 0} {refused : Refusal → B} (told : Tail → B)
           passed_bare ((tells-lt (chip_count s) (place + 32)).not e)
           (kind_follows (go (ltb-false (chip_count s) (place + 32) e)))
 
-pub tail_judged : (s : List ℕ) (place : ℕ) → Judged Tail.Refused (tail_rule s place) (tail_of s place)
+pub tail_judged : (s : List ℕ) (place : ℕ) → Judged Err (tail_rule s place) (tail_of s place)
 tail_judged s place =
     judged (λ p q e. cc) (λ r w. zero_not_one (let e = w.1.1 in cc)) (by (in_range s place) refl)
   where
-    by : (t : Bool) → in_range s place ≡ t → Follows Tail.Refused (tail_rule s place) (tail_of s place)
+    by : (t : Bool) → in_range s place ≡ t → Follows Err (tail_rule s place) (tail_of s place)
     by true e =
         let within : InBuffer s place = in_range_true e in
         passed_bare (range_kept s place e)
-        (tail_follows (λ x. x) (λ r. refl) s place (λ k. accept (λ r. r ≡ Tail.Begins k)) within.small
+        (tail_follows (λ x. x) (λ r. refl) s place (λ k. accept (λ r. r ≡ Ok k)) within.small
         within.inside (λ there k h. Follows.ended refl))
     by false e =
-        subst (Follows Tail.Refused (tail_rule s place)) (sym (tail_of_outside s place e))
+        subst (Follows Err (tail_rule s place)) (sym (tail_of_outside s place e))
         (taken_bare Refusal.OutOfRange (range_left s place e) refl refl)

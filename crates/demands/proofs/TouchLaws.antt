@@ -13,6 +13,7 @@ use borrow.Author.Tests.{ltb-true, ltb-false, le-leb}
 use lib.Dec.{ltb}
 use lib.ListN.{length, get_or, take, drop, length-drop, get_or-append}
 use lib.Seq.{get_or-append-add, get_or-take, get_or-drop, length-take-le}
+use Rattle.std.specs.Prelude.{Ok}
 use Rattle.crc.specs.CheckUpdate.{updated_check}
 use Rattle.blocks.specs.Spans.{size_of, framed, payload}
 use Rattle.blocks.specs.Places.{place_in, check_in, check_at, updated_at}
@@ -20,8 +21,7 @@ use Rattle.blocks.proofs.SpanLaws.{total, length_framed, payload_framed}
 use Rattle.blocks.proofs.CutLaws.{widest_spans}
 use Rattle.blocks.proofs.PlaceLaws.{placed-lt}
 use Rattle.frame.specs.declared.Format.{Format}
-use Rattle.frame.specs.declared.Frame.{Frame}
-use Rattle.frame.specs.Formats.{form_of, spans_of, frame_size}
+use Rattle.frame.specs.Formats.{form_of, spans_of, frame_size, sizes}
 use Rattle.frame.specs.Frames.{frame_of, content_in}
 use Rattle.frame.specs.Judging.{judge_of}
 use Rattle.frame.specs.Changes.{changing_of, place_of, check_place_of}
@@ -85,7 +85,7 @@ place_in_held (k ∷ ks) s j fits h =
 div-mod_two : (x : ℕ) → x / 256 * 256 + x % 256 ≡ x
 div-mod_two x = omega arith
 
-module _ (f : Format) (s : List ℕ) (z n : ℕ) (e : judge_of f s ≡ Frame.Accepted z n) (k b : ℕ) (there : k < n) where
+module _ (f : Format) (s : List ℕ) (z n : ℕ) (e : judge_of f s ≡ Ok (sizes z n)) (k b : ℕ) (there : k < n) where
   abbrev p : ℕ
   p = place_of f n k
 

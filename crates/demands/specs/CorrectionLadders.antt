@@ -5,35 +5,34 @@
 --                           ID 1, low byte first, and the check bytes; the bytes of d after them stay
 --     check_bytes_rule w d    the check bytes of any bytes alone: 23; 4
 --     announce_rule s        what a header announces, its low byte first: 1; 24
-use Rattle.std.specs.Prelude.{List, ◌∷◌, ◌++◌, ◌≡◌, ℕ, ◌+◌, ◌*◌, ◌<◌, length, get_or, take, drop}
-use Rattle.answers.specs.declared.Written.{Written}
+use Rattle.std.specs.Prelude.{List, ◌∷◌, ◌++◌, ◌≡◌, ℕ, ◌+◌, ◌*◌, ◌<◌, length, get_or, take, drop, Result, Ok, ⊤}
+use Rattle.answers.specs.declared.Refusal.{Refusal}
 use Rattle.answers.specs.Outcome.{Outcome}
 use Rattle.frame.specs.declared.Format.{Format}
 use Rattle.frame.specs.Formats.{frame_size}
-use Rattle.codewords.specs.declared.Announced.{Announced}
 use Rattle.codewords.specs.CodeBlocks.{Corrects}
 use Rattle.demands.specs.Rules.{Rule, ◌when◌else◌, given, accept}
 use Rattle.demands.specs.Ladders.{judge_steps}
 use Rattle.demands.specs.CorrectionCases.{IdIs}
 
-abbrev pub write_rule : Format → List ℕ → List ℕ → Rule (Outcome Written)
+abbrev pub write_rule : Format → List ℕ → List ℕ → Rule (Outcome (Result ℕ Refusal))
 write_rule f s d =
     judge_steps f s (λ n. let z = frame_size f n in
     let w = take z s in
     23 when 223 < z
     else 4 when length d < z + 34
     else given (Corrects w) (λ c. accept (λ o.
-    o ≡ record { answer = Written.Accepted (z + 34); memory = (w ++ (0x21 ∷ 0x04 ∷ c)) ++ drop (z + 34) d })))
+    o ≡ record { answer = Ok (z + 34); memory = (w ++ (0x21 ∷ 0x04 ∷ c)) ++ drop (z + 34) d })))
 
-abbrev pub check_bytes_rule : List ℕ → List ℕ → Rule (Outcome Written)
+abbrev pub check_bytes_rule : List ℕ → List ℕ → Rule (Outcome (Result ℕ Refusal))
 check_bytes_rule w d =
     23 when 223 < length w
     else 4 when length d < 32
     else given (Corrects w) (λ c. accept (λ o.
-    o ≡ record { answer = Written.Accepted 32; memory = c ++ drop 32 d }))
+    o ≡ record { answer = Ok 32; memory = c ++ drop 32 d }))
 
-abbrev pub announce_rule : List ℕ → Rule Announced
+abbrev pub announce_rule : List ℕ → Rule (Result ⊤ Refusal)
 announce_rule s =
     1 when length s < 2
     else 24 when (IdIs (get_or s 0 0 + 256 * get_or s 1 0) 1 → ⊥)
-    else accept (λ r. r ≡ Announced.ReedSolomon)
+    else accept (λ r. r ≡ Ok tt)

@@ -7,94 +7,76 @@
 -- told as a number and a row (kusikhut/specs/Told, Calls). In the crate `entry` calls have the page's own words as
 -- contracts. The definitions are functions of all lists and numbers, so every input has one answer, and what is said
 -- here of a definition holds for every run of the function; docs/SETTLED.md says what that rests on.
-use Rattle.std.specs.Prelude.{true, false, cond, List, [], ◌∷◌, ◌++◌, map, ◌↔◌, ◌⊎◌, ◌≡◌, ℕ, ◌+◌, ◌-◌, ◌*◌, ◌/◌, ◌%◌, ◌≤◌, ◌<◌, ltb, length, get_or, take, drop, set, replicate}
+use Rattle.std.specs.Prelude.{true, false, cond, List, [], ◌∷◌, ◌++◌, map, ◌↔◌, ◌⊎◌, ◌≡◌, ℕ, ◌+◌, ◌-◌, ◌*◌, ◌/◌, ◌%◌, ◌≤◌, ◌<◌, ltb, length, get_or, take, drop, set, replicate, Result, Ok, Err, Option, Some, None, slice_get}
 use Rattle.std.specs.Borrow.{Bor}
 use Rattle.std.specs.Int.Bits.{bit_xor}
 use Rattle.std.specs.Float.Ieee.Exact.{HasValue}
 use Rattle.answers.specs.declared.Refusal.{Refusal}
-use Rattle.answers.specs.declared.Written.{Written}
-use Rattle.answers.specs.Outcome.{Outcome}
+use Rattle.answers.specs.Outcome.{Outcome, leaving}
 use Rattle.answers.specs.Refusals.{number_of, value_of}
 use Rattle.ground.specs.Apart.{apart}
 use Rattle.ground.specs.Bytes.{Bytes}
 use Rattle.chips.specs.Chips.{chip_at, room_limit}
 use Rattle.chips.specs.Packing.{tabulate}
 use Rattle.line.specs.declared.codes.Code.{Code}
-use Rattle.line.specs.declared.decoding.Decoded.{Decoded}
-use Rattle.line.specs.declared.words.Word.{Word}
 use Rattle.line.specs.Codes.{code_of, chips_in}
 use Rattle.line.specs.Decoding.{decoded}
 use Rattle.line.specs.Encoding.{encoded, encoded_size}
 use Rattle.line.specs.OneWord.{word_read}
-use Rattle.chipreader.specs.declared.Answer.{Answer}
 use Rattle.chipreader.specs.declared.Place.{Place}
 use Rattle.chipreader.specs.declared.ChipReader.{ChipReader}
 use Rattle.chipreader.specs.Steps.{start_of, step_of, reader_at, reader_after}
 use Rattle.sync.specs.declared.Kind.{Kind}
-use Rattle.sync.specs.declared.Sync.{Sync}
-use Rattle.sync.specs.declared.Tail.{Tail}
 use Rattle.sync.specs.Kinds.{lead_of}
-use Rattle.sync.specs.SyncSearch.{search_of}
+use Rattle.sync.specs.SyncSearch.{search_of, found}
 use Rattle.sync.specs.Tails.{tail_of}
 use Rattle.crc.specs.Check.{check_of}
-use Rattle.crc.specs.declared.Updated.{Updated}
 use Rattle.crc.specs.CheckUpdate.{updating, Mends}
 use Rattle.frame.specs.declared.Format.{Format}
-use Rattle.frame.specs.declared.Frame.{Frame}
-use Rattle.frame.specs.Formats.{form_of, frame_size, size_for}
+use Rattle.frame.specs.Formats.{form_of, frame_size, size_for, sizes}
 use Rattle.frame.specs.Judging.{judge_of}
 use Rattle.frame.specs.Reads.{reading_of, Handed}
 use Rattle.frame.specs.Writes.{writing_of}
 use Rattle.frame.specs.Changes.{changing_of, Edit, changing, answers_of, edited, last_at, place_of, check_place_of}
 use Rattle.damage.specs.Seen.{AlwaysSeen, Unseen}
 use Rattle.damage.specs.Promise.{BurstsSeen, FewBitsSeen, OneBlockSeen, BlockNamed, Limits}
-use Rattle.radio.specs.declared.Reception.{Reception}
 use Rattle.radio.specs.KindParts.{format_of}
-use Rattle.radio.specs.Receiving.{reception_of, manchester_of}
+use Rattle.radio.specs.Receiving.{reception_of, manchester_of, reception}
 use Rattle.radio.specs.Sending.{sending_of, air_size, sent_chips, SentAt}
 use Rattle.radio.specs.Heard.{searched, receiving_of, first_try, Heard, heard_of}
 use Rattle.airdamage.specs.ChipDamage.{ChipBurst, NeverSent, ChipsSeen}
 use Rattle.header.specs.declared.layout.Header.{Header}
-use Rattle.header.specs.declared.reading.HeaderReading.{HeaderReading}
 use Rattle.header.specs.AccessBits.{access_of, access_row}
 use Rattle.header.specs.Layout.{addressed, header_length}
 use Rattle.header.specs.HeaderReads.{fields_of, trimmed, header_reading_of}
 use Rattle.header.specs.HeaderWrites.{header_writing_of}
-use Rattle.address.specs.declared.Spelling.{Spelling}
 use Rattle.address.specs.declared.Reach.{Reach}
 use Rattle.address.specs.Makers.{maker_of}
 use Rattle.address.specs.Names.{two_at, name_of}
-use Rattle.filter.specs.declared.Verdict.{Verdict}
 use Rattle.filter.specs.Listed.{verdict_of}
 use Rattle.modes.specs.declared.Mode.{Mode}
 use Rattle.modes.specs.Tables.{mode_number, format_number}
 use Rattle.address.specs.Keys.{key_bytes, key_at}
 use Rattle.sessions.specs.declared.Meter.{Meter}
-use Rattle.sessions.specs.declared.Value.{Value}
-use Rattle.sessions.specs.declared.Lookup.{Lookup}
-use Rattle.sessions.specs.Meters.{Store, Keep}
+use Rattle.sessions.specs.Meters.{Store}
 use Rattle.sessions.specs.Changes.{empty_store, with_meter}
 use Rattle.sessions.specs.StoreFile.{mark_of, bytes_of, version_one, file_of}
 use Rattle.sessions.specs.StoreCalls.{emptying, adding, adding_by, hearing_in, issuing, restoring, writing_store, looking_up, allowance_in, setting_allowance}
 use Rattle.sessions.specs.Valid.{Valid, Within, IsFile}
 use Rattle.sessions.specs.History.{Call, InRanges, after_all, NoneHeld, Running, Restored}
-use Rattle.codewords.specs.declared.Announced.{Announced}
 use Rattle.codewords.specs.CodeBlocks.{CodeBlock, Corrects}
 use Rattle.codewords.specs.CheckBytes.{checks_of}
 use Rattle.codewords.specs.Corrections.{correcting_of, checking_of, announced_of}
-use Rattle.proposals.specs.declared.Proposal.{Proposal}
 use Rattle.proposals.specs.Received.{received}
 use Rattle.proposals.specs.Near.{Near, Nearest}
 use Rattle.proposals.specs.Sixteen.{MendsSixteen}
 use Rattle.proposals.specs.Proposals.{proposal_of, proposing_of}
 use Rattle.proposals.specs.TakenWith.{TakenWith}
 use Rattle.channels.specs.declared.listing.Band.{Band}
-use Rattle.channels.specs.declared.listing.Line.{Line}
-use Rattle.channels.specs.declared.plan.Centre.{Centre}
 use Rattle.channels.specs.Table21.{entry_of, channels_of, quarters_of}
 use Rattle.channels.specs.Plan.{float, row_of, centre_of}
-use Rattle.channels.specs.Listing.{band_of, rows_of, lines_from, lines_of, line_at}
-use Rattle.kusikhut.specs.Told.{Told, told, tells, told_updated, told_decoded, told_word, told_written, told_size, told_frame, told_sync, told_header, told_maker, told_verdict, told_value, told_lookup, told_line, told_centre, told_reception, told_announced, told_proposal, kind_number, reach_number}
+use Rattle.channels.specs.Listing.{band_of, rows_of, lines_from, lines_of, line_at, channel_line}
+use Rattle.kusikhut.specs.Told.{Told, told, tells, told_number, told_decoded, told_size, told_frame, told_sync, told_header, told_maker, told_verdict, told_lookup, told_line, told_centre, told_reception, told_announced, kind_number, reach_number}
 use Rattle.demands.specs.Rules.{Judged, JudgedLent}
 use Rattle.demands.specs.Cases.{InUse, Spells}
 use Rattle.demands.specs.TopBit.{top_turned}
@@ -117,81 +99,81 @@ pub record ChipNumbers : Type 0 where
   -- by line::decode, kusikhut_decode_nrz, kusikhut_decode_three_of_six, kusikhut_decode_manchester
   pub decoding :
       (code : Code) (s : List ℕ) (start n : ℕ) (d : List ℕ)
-      → JudgedLent Decoded.Refused d (rule.decode_rule (code_of code) s start n d) (decoded (code_of code) s start n d)
+      → JudgedLent Err d (rule.decode_rule (code_of code) s start n d) (decoded (code_of code) s start n d)
   -- by line::encode, kusikhut_encode_nrz, kusikhut_encode_three_of_six, kusikhut_encode_manchester
   pub encoding :
       (code : Code) (s d : List ℕ)
-      → JudgedLent Written.Refused d (rule.encode_rule (code_of code) s d) (encoded (code_of code) s d)
+      → JudgedLent Err d (rule.encode_rule (code_of code) s d) (encoded (code_of code) s d)
   -- by line::word_at, kusikhut_word_nrz, kusikhut_word_three_of_six, kusikhut_word_manchester
   pub one_word :
       (code : Code) (s : List ℕ) (at : ℕ)
-      → Judged Word.Refused (rule.word_rule (code_of code) s at) (word_read (code_of code) s at)
-  -- by chipreader::start
+      → Judged Err (rule.word_rule (code_of code) s at) (word_read (code_of code) s at)
+  -- by chipreader::Place::start
   pub making_a_reader :
       (s : List ℕ) (at : ℕ)
-      → Judged (λ r. record { at = 0; answer = Answer.Refused r }) (rule.reader_rule s at) (start_of s at)
-  -- by chipreader::step, chipreader::first
+      → Judged (λ r. record { at = 0; answer = Some (Err r) }) (rule.reader_rule s at) (start_of s at)
+  -- by chipreader::Place::step, chipreader::first
   pub reading_a_word :
       (code : Code) (s : List ℕ) (p : Place)
-      → Judged (λ r. record { at = p.at; answer = Answer.Refused r }) (rule.step_rule (code_of code) s p)
+      → Judged (λ r. record { at = p.at; answer = Some (Err r) }) (rule.step_rule (code_of code) s p)
       (step_of (code_of code) s p)
-  -- by chipreader::new
+  -- by chipreader::ChipReader::new
   pub keeping_the_chips :
       (s : Bor (List ℕ)) (at : ℕ)
       → let r = reader_at s (start_of s.now at) in
       (r.chips ≡ s) × (r.place ≡ start_of s.now at)
-  -- by chipreader::next
+  -- by chipreader::ChipReader::next
   pub keeping_its_place :
       (code : Code) (r : ChipReader)
       → ((reader_after (code_of code) r).chips ≡ r.chips)
       × ((reader_after (code_of code) r).place ≡ step_of (code_of code) r.chips.now r.place)
   -- by sync::search, kusikhut_search
-  pub searching : (s : List ℕ) (start a : ℕ) → Judged Sync.Refused (rule.search_rule s start a) (search_of s start a)
+  pub searching : (s : List ℕ) (start a : ℕ) → Judged Err (rule.search_rule s start a) (search_of s start a)
   -- by sync::tail_at
-  pub sync_tail : (s : List ℕ) (place : ℕ) → Judged Tail.Refused (rule.tail_rule s place) (tail_of s place)
+  pub sync_tail : (s : List ℕ) (place : ℕ) → Judged Err (rule.tail_rule s place) (tail_of s place)
 
 -- Frames, in bytes and in chips, and the check update.
 pub record FrameNumbers : Type 0 where
   -- by crc::update, kusikhut_update
   pub updating_a_check :
-      (c old new k : ℕ) → Judged Updated.Refused (rule.update_rule c old new k) (updating c old new k)
+      (c old new k : ℕ) → Judged Err (rule.update_rule c old new k) (updating c old new k)
   -- by frame::Format::frame_size, frame::FormatA::frame_size, frame::FormatB::frame_size, kusikhut_frame_size_a,
   -- kusikhut_frame_size_b
-  pub frame_size_is : (f : Format) (l : ℕ) → Judged Frame.Refused (rule.size_rule f l) (size_for f l)
+  pub frame_size_is : (f : Format) (l : ℕ) → Judged Err (rule.size_rule f l) (size_for f l)
   -- by frame::judge
-  pub judging : (f : Format) (s : List ℕ) → Judged Frame.Refused (rule.judge_rule f s) (judge_of f s)
+  pub judging : (f : Format) (s : List ℕ) → Judged Err (rule.judge_rule f s) (judge_of f s)
   -- by frame::read, kusikhut_read_a, kusikhut_read_b
-  pub reading : (f : Format) (s d : List ℕ) → JudgedLent Frame.Refused d (rule.read_rule f s d) (reading_of f s d)
+  pub reading : (f : Format) (s d : List ℕ) → JudgedLent Err d (rule.read_rule f s d) (reading_of f s d)
   -- by frame::write, kusikhut_write_a, kusikhut_write_b
-  pub writing : (f : Format) (c d : List ℕ) → JudgedLent Written.Refused d (rule.write_rule f c d) (writing_of f c d)
+  pub writing : (f : Format) (c d : List ℕ) → JudgedLent Err d (rule.write_rule f c d) (writing_of f c d)
   -- by frame::change, kusikhut_change_a, kusikhut_change_b
   pub changing_a_byte :
       (f : Format) (s : List ℕ) (k b : ℕ)
-      → JudgedLent Frame.Refused s (rule.change_rule f s k b) (changing_of f s k b)
+      → JudgedLent Err s (rule.change_rule f s k b) (changing_of f s k b)
   -- by radio::receive, kusikhut_receive
   pub receiving :
       (s : List ℕ) (start a : ℕ) (d : List ℕ)
-      → JudgedLent Reception.Refused d (rule.receive_rule s start a d) (reception_of s start a d)
+      → JudgedLent Err d (rule.receive_rule s start a d) (reception_of s start a d)
   -- by radio::receive_manchester, kusikhut_receive_manchester
   pub receiving_manchester :
       (s : List ℕ) (start : ℕ) (d : List ℕ)
-      → JudgedLent Reception.Refused d (rule.manchester_rule s start d) (manchester_of s start d)
+      → JudgedLent Err d (rule.manchester_rule s start d) (manchester_of s start d)
   -- by radio::send, kusikhut_send_t_a, kusikhut_send_c_a, kusikhut_send_c_b, kusikhut_send_manchester_a
-  pub sending : (k : Kind) (c d : List ℕ) → JudgedLent Written.Refused d (rule.send_rule k c d) (sending_of k c d)
+  pub sending : (k : Kind) (c d : List ℕ) → JudgedLent Err d (rule.send_rule k c d) (sending_of k c d)
 
 -- Headers, meter filter, channels.
 pub record MeterNumbers : Type 0 where
   -- by header::read, kusikhut_header_read
-  pub reading_a_header : (s : List ℕ) → Judged HeaderReading.Refused (rule.header_read_rule s) (header_reading_of s)
+  pub reading_a_header : (s : List ℕ) → Judged Err (rule.header_read_rule s) (header_reading_of s)
   -- by header::write, kusikhut_header_write_8c, kusikhut_header_write_8d, kusikhut_header_write_8e,
   -- kusikhut_header_write_8f
   pub writing_a_header :
-      (h : Header) (d : List ℕ) → JudgedLent Written.Refused d (rule.header_write_rule h d) (header_writing_of h d)
+      (h : Header) (d : List ℕ) → JudgedLent Err d (rule.header_write_rule h d) (header_writing_of h d)
   -- (sixteen entries: the array's type)
   -- by filter::wanted, kusikhut_filter
   pub filtering :
       (es : List (List ℕ)) (n : ℕ) (s : List ℕ) → length es ≡ 16
-      → Judged Verdict.Refused (rule.filter_rule es n s) (verdict_of es n s)
+      → Judged Err (rule.filter_rule es n s) (verdict_of es n s)
   -- by channels::centre_of, kusikhut_centre
   pub no_channel : (i c : ℕ) → (told_centre (centre_of i c) ≡ told 13 (float 0 ∷ [])) ↔ (channels_of i ≤ c)
   -- by channels::centre_of, kusikhut_centre
@@ -200,36 +182,36 @@ pub record MeterNumbers : Type 0 where
   -- by channels::centre_of, kusikhut_centre
   pub exact_centre :
       (i c : ℕ) → c < channels_of i
-      → (centre_of i c ≡ Centre.At (float (quarters_of i c)))
+      → (centre_of i c ≡ Some (float (quarters_of i c)))
       × HasValue (float (quarters_of i c)) false (quarters_of i c) 4
   -- by channels::line_at, kusikhut_band_line
   pub no_line :
-      (b : Band) (k : ℕ) → (told_line (line_at b k) ≡ told 13 (0 ∷ 0 ∷ 0 ∷ [])) ↔ (length (lines_of b) ≤ k)
+      (b : Option Band) (k : ℕ) → (told_line (line_at b k) ≡ told 13 (0 ∷ 0 ∷ 0 ∷ [])) ↔ (length (lines_of b) ≤ k)
   -- by channels::line_at, kusikhut_band_line
   pub a_line :
-      (b : Band) (k i c h : ℕ)
-      → (told_line (line_at b k) ≡ told 0 (i ∷ c ∷ h ∷ [])) ↔ (get_or (lines_of b) k Line.End ≡ Line.Channel i c h)
+      (b : Option Band) (k i c h : ℕ)
+      → (told_line (line_at b k) ≡ told 0 (i ∷ c ∷ h ∷ [])) ↔ (slice_get (lines_of b) k ≡ Some (channel_line i c h))
   -- (index then channel ascending, in hertz: the first index's channels in their order, then the next index)
   -- by channels::line_at, kusikhut_band_line
   pub line_order :
-      ((b : Band) (k : ℕ) → line_at b k ≡ get_or (lines_from (rows_of b).first (rows_of b).count) k Line.End)
+      ((b : Option Band) (k : ℕ) → line_at b k ≡ slice_get (lines_from (rows_of b).first (rows_of b).count) k)
       × ((i n k : ℕ) → 0 < n
-      → (k < channels_of i → get_or (lines_from i n) k Line.End ≡ Line.Channel i k (250 * quarters_of i k))
+      → (k < channels_of i → slice_get (lines_from i n) k ≡ Some (channel_line i k (250 * quarters_of i k)))
       × (channels_of i ≤ k
-      → get_or (lines_from i n) k Line.End ≡ get_or (lines_from (i + 1) (n - 1)) (k - channels_of i) Line.End))
+      → slice_get (lines_from i n) k ≡ slice_get (lines_from (i + 1) (n - 1)) (k - channels_of i)))
   -- by channels::line_at, kusikhut_band_line
   pub band_b :
-      (line_at Band.B 0 ≡ Line.Channel 5 0 169481250) × ((line_at Band.B 1 ≡ Line.Channel 6 0 169481250)
-      × (line_at Band.B 2 ≡ Line.End))
+      (line_at (Some Band.B) 0 ≡ Some (channel_line 5 0 169481250))
+      × ((line_at (Some Band.B) 1 ≡ Some (channel_line 6 0 169481250)) × (line_at (Some Band.B) 2 ≡ None))
   -- by channels::band_of
   pub no_band :
       (s : List ℕ)
-      → (band_of s ≡ Band.NoSuch)
+      → (band_of s ≡ None)
       ↔ ((x : ℕ) → 65 ≤ x → x ≤ 68 → ((s ≡ x ∷ []) ⊎ (s ≡ x ∷ 10 ∷ [])) → ⊥)
   -- by channels::band_of
   pub a_band :
       map band_of ((65 ∷ []) ∷ (66 ∷ []) ∷ (67 ∷ []) ∷ (68 ∷ []) ∷ [])
-      ≡ Band.A ∷ Band.B ∷ Band.C ∷ Band.D ∷ []
+      ≡ Some Band.A ∷ Some Band.B ∷ Some Band.C ∷ Some Band.D ∷ []
   -- by channels::band_of
   pub with_a_line_feed : (x : ℕ) → band_of (x ∷ 10 ∷ []) ≡ band_of (x ∷ [])
 
@@ -237,66 +219,66 @@ pub record MeterNumbers : Type 0 where
 -- bytes. A meter is named by a number, a: M and A as received (`as_received` below).
 pub record StoreNumbers : Type 0 where
   -- by store::empty, kusikhut_store_empty
-  pub making_a_store : (s : List ℕ) → JudgedLent Written.Refused s (store.empty_rule s) (emptying s)
+  pub making_a_store : (s : List ℕ) → JudgedLent Err s (store.empty_rule s) (emptying s)
   -- by store::add
   pub adding_a_meter :
       (s : List ℕ) → Bytes s → (a : ℕ) (mode : Mode) (format : Format)
-      → JudgedLent Written.Refused s (store.add_rule a mode format s) (adding a mode format s)
+      → JudgedLent Err s (store.add_rule a mode format s) (adding a mode format s)
   -- by store::add_by_number, kusikhut_store_add
   pub adding_by_numbers :
       (s : List ℕ) → Bytes s → (a k j : ℕ)
-      → JudgedLent Written.Refused s (store.add_by_rule a k j s) (adding_by a k j s)
+      → JudgedLent Err s (store.add_by_rule a k j s) (adding_by a k j s)
   -- by store::hear, kusikhut_store_hear
   pub hearing_a_number :
-      (s : List ℕ) → Bytes s → (a n : ℕ) → JudgedLent Written.Refused s (store.hear_rule a n s) (hearing_in a n s)
+      (s : List ℕ) → Bytes s → (a n : ℕ) → JudgedLent Err s (store.hear_rule a n s) (hearing_in a n s)
   -- by store::issue, kusikhut_store_issue
   pub issuing_a_number :
-      (s : List ℕ) → Bytes s → (a : ℕ) → JudgedLent Value.Refused s (store.issue_rule a s) (issuing a s)
+      (s : List ℕ) → Bytes s → (a : ℕ) → JudgedLent Err s (store.issue_rule a s) (issuing a s)
   -- by store::restore, kusikhut_store_restore
   pub restoring_a_file :
       (s : List ℕ) → Bytes s → (f : List ℕ) → Bytes f
-      → JudgedLent Written.Refused s (store.restore_rule f s) (restoring f s)
+      → JudgedLent Err s (store.restore_rule f s) (restoring f s)
   -- by store::write, kusikhut_store_write
   pub writing_a_file :
       (s : List ℕ) → Bytes s → (d : List ℕ)
-      → JudgedLent Written.Refused d (store.write_store_rule s d) (writing_store s d)
+      → JudgedLent Err d (store.write_store_rule s d) (writing_store s d)
   -- by store::look_up, kusikhut_store_look_up
   pub looking_up_a_meter :
-      (s : List ℕ) → Bytes s → (a : ℕ) → Judged Lookup.Refused (store.look_up_rule a s) (looking_up a s)
+      (s : List ℕ) → Bytes s → (a : ℕ) → Judged Err (store.look_up_rule a s) (looking_up a s)
   -- by store::allowance, kusikhut_store_allowance
-  pub asking_the_allowance : (s : List ℕ) → Bytes s → Judged Value.Refused (store.allowance_rule s) (allowance_in s)
+  pub asking_the_allowance : (s : List ℕ) → Bytes s → Judged Err (store.allowance_rule s) (allowance_in s)
   -- by store::set_allowance, kusikhut_store_set_allowance
   pub setting_the_allowance :
       (s : List ℕ) → Bytes s → (n : ℕ)
-      → JudgedLent Written.Refused s (store.set_allowance_rule n s) (setting_allowance n s)
+      → JudgedLent Err s (store.set_allowance_rule n s) (setting_allowance n s)
 
 -- Correction bytes (document 02, 11/14). Frames and other words are bytes.
 pub record CorrectionNumbers : Type 0 where
   -- by correction::write, kusikhut_correction_write_a, kusikhut_correction_write_b
   pub writing_a_correction :
       (f : Format) (s : List ℕ) → Bytes s → (d : List ℕ)
-      → JudgedLent Written.Refused d (correction.write_rule f s d) (correcting_of f s d)
+      → JudgedLent Err d (correction.write_rule f s d) (correcting_of f s d)
   -- by correction::check_bytes, kusikhut_correction_check_bytes
   pub check_bytes_alone :
       (w : List ℕ) → Bytes w → (d : List ℕ)
-      → JudgedLent Written.Refused d (correction.check_bytes_rule w d) (checking_of w d)
+      → JudgedLent Err d (correction.check_bytes_rule w d) (checking_of w d)
   -- by correction::announced, kusikhut_correction_header
-  pub reading_the_header : (s : List ℕ) → Judged Announced.Refused (correction.announce_rule s) (announced_of s)
+  pub reading_the_header : (s : List ℕ) → Judged Err (correction.announce_rule s) (announced_of s)
 
 -- Proposals for received words (document 02, 12/14). A proposal that is judged is bytes; so is what one is made for.
 pub record MendingNumbers : Type 0 where
   -- by mending::judge, kusikhut_mending_judge_a, kusikhut_mending_judge_b
   pub judging_a_proposal :
       (f : Format) (p : List ℕ) → Bytes p → (s : List ℕ)
-      → Judged Proposal.Refused (mending.judge_rule f p s) (proposal_of f p s)
+      → Judged Err (mending.judge_rule f p s) (proposal_of f p s)
   -- by mending::propose_one, kusikhut_mending_propose_one_a, kusikhut_mending_propose_one_b
   pub proposing_for_one_byte :
       (f : Format) (s : List ℕ) → Bytes s → (d : List ℕ)
-      → JudgedLent Written.Refused d (mending.propose_rule 1 f s d) (proposing_of 1 f s d)
+      → JudgedLent Err d (mending.propose_rule 1 f s d) (proposing_of 1 f s d)
   -- by mending::propose, kusikhut_mending_propose_a, kusikhut_mending_propose_b
   pub proposing_for_sixteen_bytes :
       (f : Format) (s : List ℕ) → Bytes s → (d : List ℕ)
-      → JudgedLent Written.Refused d (mending.propose_rule 16 f s d) (proposing_of 16 f s d)
+      → JudgedLent Err d (mending.propose_rule 16 f s d) (proposing_of 16 f s d)
 
 -- Calls that are never refused.
 pub record Plain : Type 0 where
@@ -305,7 +287,7 @@ pub record Plain : Type 0 where
   -- by crc::check, kusikhut_check
   pub check_vector : check_of (0x31 ∷ 0x32 ∷ 0x33 ∷ 0x34 ∷ 0x35 ∷ 0x36 ∷ 0x37 ∷ 0x38 ∷ 0x39 ∷ []) ≡ 0xC2B7
   -- by address::maker_of, kusikhut_maker
-  pub letters : (m x y z : ℕ) → ((maker_of m).spelled ≡ Spelling.Three x y z) ↔ Spells m x y z
+  pub letters : (m x y z : ℕ) → ((maker_of m).spelled ≡ Some (x, y, z)) ↔ Spells m x y z
   -- by address::maker_of, kusikhut_maker
   pub hard_or_soft :
       (m : ℕ) → m < 65536
@@ -324,18 +306,19 @@ pub record Plain : Type 0 where
       × ((i : ℕ) → 14 ≤ i → channels_of i ≡ 0)
   -- by channels::rows_of
   pub band_rows :
-      map (λ (b : Band). (rows_of b).first ∷ (rows_of b).count ∷ [])
-      (Band.A ∷ Band.B ∷ Band.C ∷ Band.D ∷ Band.NoSuch ∷ [])
+      map (λ (b : Option Band). (rows_of b).first ∷ (rows_of b).count ∷ [])
+      (Some Band.A ∷ Some Band.B ∷ Some Band.C ∷ Some Band.D ∷ None ∷ [])
       ≡ (1 ∷ 4 ∷ []) ∷ (5 ∷ 2 ∷ []) ∷ (7 ∷ 3 ∷ []) ∷ (10 ∷ 4 ∷ []) ∷ (0 ∷ 0 ∷ []) ∷ []
   -- by channels::lines_of
   pub band_lines :
-      map (λ (b : Band). length (lines_of b)) (Band.A ∷ Band.B ∷ Band.C ∷ Band.D ∷ Band.NoSuch ∷ [])
+      map (λ (b : Option Band). length (lines_of b))
+      (Some Band.A ∷ Some Band.B ∷ Some Band.C ∷ Some Band.D ∷ None ∷ [])
       ≡ 19 ∷ 2 ∷ 24 ∷ 58 ∷ 0 ∷ []
   -- by frame::Format::shortest, frame::Format::longest
   pub lengths :
       ((form_of Format.A).shortest ≡ 10) × (((form_of Format.A).longest ≡ 255)
       × (((form_of Format.B).shortest ≡ 10) × ((form_of Format.B).longest ≡ 251)))
-  -- by line::width
+  -- by line::Code::width
   pub widths :
       ((code_of Code.Nrz).chips ≡ 8) × (((code_of Code.ThreeOfSix).chips ≡ 6) × ((code_of Code.Manchester).chips ≡ 2))
 
@@ -343,68 +326,68 @@ pub record Plain : Type 0 where
 -- accepted, the number is 0 and the row has the sizes and values; if it is refused, all results are zero except the one
 -- that 01 names for this refusal. So a refusal rewrites the row, but no byte of the buffer lent for the output.
 pub record AcceptedRows : Type 0 where
-  pub updating_a_check : (c : ℕ) → told_updated (Updated.Accepted c) ≡ told 0 (c ∷ [])
-  pub decoding : told_decoded Decoded.Accepted ≡ told 0 (0 ∷ [])
-  pub one_word : (x : ℕ) → told_word (Word.Accepted x) ≡ told 0 (x ∷ [])
-  pub writing : (size : ℕ) → told_written (Written.Accepted size) ≡ told 0 (size ∷ [])
-  pub frame_size_is : (z n : ℕ) → told_size (Frame.Accepted z n) ≡ told 0 (z ∷ [])
-  pub reading : (z n : ℕ) → told_frame (Frame.Accepted z n) ≡ told 0 (z ∷ n ∷ 0 ∷ [])
-  pub searching : (place tried : ℕ) → told_sync (Sync.Found place tried) ≡ told 0 (place ∷ tried ∷ [])
+  pub updating_a_check : (c : ℕ) → told_number (Ok c) ≡ told 0 (c ∷ [])
+  pub decoding : told_decoded (Ok tt) ≡ told 0 (0 ∷ [])
+  pub one_word : (x : ℕ) → told_number (Ok x) ≡ told 0 (x ∷ [])
+  pub writing : (size : ℕ) → told_number (Ok size) ≡ told 0 (size ∷ [])
+  pub frame_size_is : (z n : ℕ) → told_size (Ok (sizes z n)) ≡ told 0 (z ∷ [])
+  pub reading : (z n : ℕ) → told_frame (Ok (sizes z n)) ≡ told 0 (z ∷ n ∷ 0 ∷ [])
+  pub searching : (place tried : ℕ) → told_sync (Ok (found place tried)) ≡ told 0 (place ∷ tried ∷ [])
   pub receiving :
       (k : Kind) (place tried z n : ℕ)
-      → told_reception (Reception.Accepted k place tried z n)
+      → told_reception (Ok (reception k place tried z n))
       ≡ told 0 (kind_number k ∷ place ∷ tried ∷ z ∷ n ∷ 0 ∷ 0 ∷ [])
   pub kinds :
       map kind_number (Kind.TWithA ∷ Kind.CWithA ∷ Kind.CWithB ∷ Kind.ManchesterWithA ∷ []) ≡ 0 ∷ 1 ∷ 2 ∷ 3 ∷ []
   pub reading_a_header :
-      (h : Header) (n : ℕ) → told_header (HeaderReading.Accepted h n) ≡ told 0 (n ∷ fields_of h)
+      (h : Header) (n : ℕ) → told_header (Ok (h, n)) ≡ told 0 (n ∷ fields_of h)
   pub letters :
       (x y z : ℕ) (r : Reach)
-      → told_maker (record { spelled = Spelling.Three x y z; reach = r }) ≡ told 0 (1 ∷ x ∷ y ∷ z ∷ reach_number r ∷ [])
+      → told_maker (record { spelled = Some (x, y, z); reach = r }) ≡ told 0 (1 ∷ x ∷ y ∷ z ∷ reach_number r ∷ [])
   pub no_letters :
       (r : Reach)
-      → told_maker (record { spelled = Spelling.NoLetters; reach = r }) ≡ told 0 (0 ∷ 0 ∷ 0 ∷ 0 ∷ reach_number r ∷ [])
+      → told_maker (record { spelled = None; reach = r }) ≡ told 0 (0 ∷ 0 ∷ 0 ∷ 0 ∷ reach_number r ∷ [])
   pub reaches : map reach_number (Reach.Hard ∷ Reach.Soft ∷ []) ≡ 0 ∷ 1 ∷ []
-  pub filtering : (told_verdict Verdict.Wanted ≡ told 0 (1 ∷ [])) × (told_verdict Verdict.Unwanted ≡ told 0 (0 ∷ []))
-  pub judging_a_proposal : (d : ℕ) → told_proposal (Proposal.Taken d) ≡ told 0 (d ∷ [])
+  pub filtering : (told_verdict (Ok true) ≡ told 0 (1 ∷ [])) × (told_verdict (Ok false) ≡ told 0 (0 ∷ []))
+  pub judging_a_proposal : (d : ℕ) → told_number (Ok d) ≡ told 0 (d ∷ [])
 
 pub record RefusedRows : Type 1 where
-  pub updating_a_check : (r : Refusal) → told_updated (Updated.Refused r) ≡ told (number_of r) (value_of r ∷ [])
-  pub decoding : (r : Refusal) → told_decoded (Decoded.Refused r) ≡ told (number_of r) (value_of r ∷ [])
-  pub one_word : (r : Refusal) → told_word (Word.Refused r) ≡ told (number_of r) (value_of r ∷ [])
-  pub writing : (r : Refusal) → told_written (Written.Refused r) ≡ told (number_of r) (value_of r ∷ [])
-  pub frame_size_is : (r : Refusal) → told_size (Frame.Refused r) ≡ told (number_of r) (value_of r ∷ [])
-  pub reading : (r : Refusal) → told_frame (Frame.Refused r) ≡ told (number_of r) (0 ∷ 0 ∷ value_of r ∷ [])
-  pub searching : (r : Refusal) → told_sync (Sync.Refused r) ≡ told (number_of r) (0 ∷ value_of r ∷ [])
+  pub updating_a_check : (r : Refusal) → told_number (Err r) ≡ told (number_of r) (value_of r ∷ [])
+  pub decoding : (r : Refusal) → told_decoded (Err r) ≡ told (number_of r) (value_of r ∷ [])
+  pub one_word : (r : Refusal) → told_number (Err r) ≡ told (number_of r) (value_of r ∷ [])
+  pub writing : (r : Refusal) → told_number (Err r) ≡ told (number_of r) (value_of r ∷ [])
+  pub frame_size_is : (r : Refusal) → told_size (Err r) ≡ told (number_of r) (value_of r ∷ [])
+  pub reading : (r : Refusal) → told_frame (Err r) ≡ told (number_of r) (0 ∷ 0 ∷ value_of r ∷ [])
+  pub searching : (r : Refusal) → told_sync (Err r) ≡ told (number_of r) (0 ∷ value_of r ∷ [])
   pub reading_a_header :
-      (r : Refusal) → told_header (HeaderReading.Refused r) ≡ told (number_of r) (value_of r ∷ replicate 13 0)
-  pub filtering : (r : Refusal) → told_verdict (Verdict.Refused r) ≡ told (number_of r) (value_of r ∷ [])
-  pub judging_a_proposal : (r : Refusal) → told_proposal (Proposal.Refused r) ≡ told (number_of r) (value_of r ∷ [])
+      (r : Refusal) → told_header (Err r) ≡ told (number_of r) (value_of r ∷ replicate 13 0)
+  pub filtering : (r : Refusal) → told_verdict (Err r) ≡ told (number_of r) (value_of r ∷ [])
+  pub judging_a_proposal : (r : Refusal) → told_number (Err r) ≡ told (number_of r) (value_of r ∷ [])
   pub wrong_block :
       (b : ℕ)
-      → told_reception (Reception.Refused (Refusal.WrongCheck b)) ≡ told 3 (0 ∷ 0 ∷ 0 ∷ 0 ∷ 0 ∷ b ∷ 0 ∷ [])
+      → told_reception (Err (Refusal.WrongCheck b)) ≡ told 3 (0 ∷ 0 ∷ 0 ∷ 0 ∷ 0 ∷ b ∷ 0 ∷ [])
   pub bad_word :
-      (w : ℕ) → told_reception (Reception.Refused (Refusal.BadWord w)) ≡ told 6 (0 ∷ 0 ∷ 0 ∷ 0 ∷ 0 ∷ 0 ∷ w ∷ [])
+      (w : ℕ) → told_reception (Err (Refusal.BadWord w)) ≡ told 6 (0 ∷ 0 ∷ 0 ∷ 0 ∷ 0 ∷ 0 ∷ w ∷ [])
   pub unknown_tail :
-      (p : ℕ) → told_reception (Reception.Refused (Refusal.UnknownTail p)) ≡ told 8 (0 ∷ p ∷ 0 ∷ 0 ∷ 0 ∷ 0 ∷ 0 ∷ [])
+      (p : ℕ) → told_reception (Err (Refusal.UnknownTail p)) ≡ told 8 (0 ∷ p ∷ 0 ∷ 0 ∷ 0 ∷ 0 ∷ 0 ∷ [])
   pub no_sync :
-      (t : ℕ) → told_reception (Reception.Refused (Refusal.NoSync t)) ≡ told 7 (0 ∷ 0 ∷ t ∷ 0 ∷ 0 ∷ 0 ∷ 0 ∷ [])
+      (t : ℕ) → told_reception (Err (Refusal.NoSync t)) ≡ told 7 (0 ∷ 0 ∷ t ∷ 0 ∷ 0 ∷ 0 ∷ 0 ∷ [])
   pub used_up :
-      (t : ℕ) → told_reception (Reception.Refused (Refusal.UsedUp t)) ≡ told 14 (0 ∷ 0 ∷ t ∷ 0 ∷ 0 ∷ 0 ∷ 0 ∷ [])
+      (t : ℕ) → told_reception (Err (Refusal.UsedUp t)) ≡ told 14 (0 ∷ 0 ∷ t ∷ 0 ∷ 0 ∷ 0 ∷ 0 ∷ [])
   pub receiving :
-      (r : Refusal) → value_of r ≡ 0 → told_reception (Reception.Refused r) ≡ told (number_of r) (replicate 7 0)
+      (r : Refusal) → value_of r ≡ 0 → told_reception (Err r) ≡ told (number_of r) (replicate 7 0)
   pub lent_memory : {A : Type 0} (f : A → Told ℕ) (o : Outcome A) → (tells f o).memory ≡ o.memory
 
 -- The rows of the settings store: a number that was issued or asked for, and what is held of a meter, its mode and
 -- format by their numbers. All other calls on the store tell its size, as `writing` above.
 pub record StoreRows : Type 0 where
-  pub a_number : (n : ℕ) → told_value (Value.Accepted n) ≡ told 0 (n ∷ [])
-  pub no_number : (r : Refusal) → told_value (Value.Refused r) ≡ told (number_of r) (value_of r ∷ [])
+  pub a_number : (n : ℕ) → told_number (Ok n) ≡ told 0 (n ∷ [])
+  pub no_number : (r : Refusal) → told_number (Err r) ≡ told (number_of r) (value_of r ∷ [])
   pub a_meter :
       (m : Meter)
-      → told_lookup (Lookup.Accepted m)
+      → told_lookup (Ok m)
       ≡ told 0 (mode_number m.mode ∷ format_number m.format ∷ m.number ∷ mark_of m.unsure ∷ [])
-  pub no_meter : (r : Refusal) → told_lookup (Lookup.Refused r) ≡ told (number_of r) (value_of r ∷ 0 ∷ 0 ∷ 0 ∷ [])
+  pub no_meter : (r : Refusal) → told_lookup (Err r) ≡ told (number_of r) (value_of r ∷ 0 ∷ 0 ∷ 0 ∷ [])
   pub modes :
       map mode_number (Mode.R ∷ Mode.S ∷ Mode.T ∷ Mode.C ∷ Mode.N ∷ Mode.F ∷ []) ≡ 0 ∷ 1 ∷ 2 ∷ 3 ∷ 4 ∷ 5 ∷ []
   pub formats : map format_number (Format.A ∷ Format.B ∷ []) ≡ 0 ∷ 1 ∷ []
@@ -415,26 +398,26 @@ pub record StoreRows : Type 0 where
 -- the first m of its bytes are decoded, those that were written among them.
 pub record InCodes : Type 0 where
   pub encoded_then_decoded :
-      (code : Code) (b buf d : List ℕ) (z m : ℕ) → Bytes b → (encoded (code_of code) b buf).answer ≡ Written.Accepted z
+      (code : Code) (b buf d : List ℕ) (z m : ℕ) → Bytes b → (encoded (code_of code) b buf).answer ≡ Ok z
       → z ≤ m → m ≤ room_limit → length b ≤ length d
       → decoded (code_of code) (take m (encoded (code_of code) b buf).memory) 0 (length b) d
-      ≡ record { answer = Decoded.Accepted; memory = b ++ drop (length b) d }
+      ≡ record { answer = Ok tt; memory = b ++ drop (length b) d }
   pub decoded_then_encoded :
       (code : Code) (s : List ℕ) (start n : ℕ) (d out : List ℕ)
-      → (decoded (code_of code) s start n d).answer ≡ Decoded.Accepted → encoded_size (code_of code) n ≤ length out
+      → (decoded (code_of code) s start n d).answer ≡ Ok tt → encoded_size (code_of code) n ≤ length out
       → let o = encoded (code_of code) (take n (decoded (code_of code) s start n d).memory) out in
-      (o.answer ≡ Written.Accepted (encoded_size (code_of code) n))
+      (o.answer ≡ Ok (encoded_size (code_of code) n))
       × ((i : ℕ) → i < chips_in (code_of code) n → chip_at o.memory i ≡ chip_at s (start + i))
 
 -- The headers' own round trips. Fields that a kind lacks are read as zeros (`trimmed`).
 pub record InHeaders : Type 0 where
   pub written_then_read :
       (h : Header) (d : List ℕ) → header_length h.kind ≤ length d
-      → header_reading_of (header_writing_of h d).memory ≡ HeaderReading.Accepted (trimmed h) (header_length h.kind)
+      → header_reading_of (header_writing_of h d).memory ≡ Ok (trimmed h, header_length h.kind)
   pub read_then_written :
-      (s : List ℕ) → Bytes s → (h : Header) (n : ℕ) (d : List ℕ) → header_reading_of s ≡ HeaderReading.Accepted h n
+      (s : List ℕ) → Bytes s → (h : Header) (n : ℕ) (d : List ℕ) → header_reading_of s ≡ Ok (h, n)
       → n ≤ length d
-      → header_writing_of h d ≡ record { answer = Written.Accepted n; memory = take n s ++ drop n d }
+      → header_writing_of h d ≡ record { answer = Ok n; memory = take n s ++ drop n d }
 
 -- Demand 2, in bytes. A buffer s is accepted, with frame size z and content length n, and leaves m in the lent memory
 -- d, exactly when s begins with the frame of some content c of n bytes for which d has room, and m is c with what d
@@ -443,16 +426,16 @@ pub record InHeaders : Type 0 where
 pub record InBytes : Type 0 where
   pub accepted_exactly :
       (f : Format) (s d m : List ℕ) (z n : ℕ)
-      → (reading_of f s d ≡ record { answer = Frame.Accepted z n; memory = m }) ↔ ((c : List ℕ) × Handed f s d z n m c)
+      → (reading_of f s d ≡ record { answer = Ok (sizes z n); memory = m }) ↔ ((c : List ℕ) × Handed f s d z n m c)
   pub written_then_read :
       (f : Format) (c d : List ℕ) → (form_of f).shortest ≤ length c → length c ≤ (form_of f).longest
       → frame_size f (length c) ≤ length d → (e : List ℕ) → length c ≤ length e
       → reading_of f (writing_of f c d).memory e
-      ≡ record { answer = Frame.Accepted (frame_size f (length c)) (length c); memory = c ++ drop (length c) e }
+      ≡ record { answer = Ok (sizes (frame_size f (length c)) (length c)); memory = c ++ drop (length c) e }
   pub read_then_written :
-      (f : Format) (s d e : List ℕ) (z n : ℕ) → (reading_of f s d).answer ≡ Frame.Accepted z n → z ≤ length e
+      (f : Format) (s d e : List ℕ) (z n : ℕ) → (reading_of f s d).answer ≡ Ok (sizes z n) → z ≤ length e
       → writing_of f (take n (reading_of f s d).memory) e
-      ≡ record { answer = Written.Accepted z; memory = take z s ++ drop z e }
+      ≡ record { answer = Ok z; memory = take z s ++ drop z e }
 
 -- Demand 2, in chips, once over the kind (T with A, C with A, C with B, Manchester with A). A frame that the search
 -- reaches within its allowance, and whose content fits the lent memory, is accepted exactly when its sync word, line
@@ -464,19 +447,19 @@ pub record InBytes : Type 0 where
 pub record InChips : Type 0 where
   pub accepted_exactly :
       (s : List ℕ) (start a : ℕ) (d : List ℕ) (j k : Kind) (place t z n : ℕ) (m : List ℕ)
-      → (receiving_of j s start a d ≡ record { answer = Reception.Accepted k place t z n; memory = m })
+      → (receiving_of j s start a d ≡ record { answer = Ok (reception k place t z n); memory = m })
       ↔ ((c : List ℕ) × (Heard s start a d k place t z n c × ((m ≡ c ++ drop n d) × (searched k ≡ searched j))))
   pub sent_then_received :
       (k : Kind) (c d : List ℕ) → Bytes c → length c ≤ length d
-      → (buf : List ℕ) (a y m : ℕ) → 0 < a → (sending_of k c buf).answer ≡ Written.Accepted y
+      → (buf : List ℕ) (a y m : ℕ) → 0 < a → (sending_of k c buf).answer ≡ Ok y
       → y ≤ m → m ≤ room_limit
       → receiving_of k (take m (sending_of k c buf).memory) 0 a d
       ≡ heard_of k 0 (first_try k) (frame_size (format_of k) (length c)) c d
   pub received_then_sent :
       (s : List ℕ) (start a : ℕ) (d : List ℕ) (j k : Kind) (place t z n : ℕ) (out : List ℕ)
-      → (receiving_of j s start a d).answer ≡ Reception.Accepted k place t z n → air_size k z ≤ length out
+      → (receiving_of j s start a d).answer ≡ Ok (reception k place t z n) → air_size k z ≤ length out
       → let o = sending_of k (take n (receiving_of j s start a d).memory) out in
-      (o.answer ≡ Written.Accepted (air_size k z))
+      (o.answer ≡ Ok (air_size k z))
       × ((i : ℕ) → i < sent_chips k n → chip_at o.memory i ≡ chip_at s (place + i))
 
 -- Demand 3. Take a frame that reading accepts. After any sequence of byte changes in its format, refused ones included,
@@ -486,23 +469,22 @@ pub record InChips : Type 0 where
 -- distance to the end of the span alone. It mends every span (`updating_a_check` above), and nothing else does.
 pub record Changes : Type 0 where
   pub sequence_is_writing :
-      (f : Format) (s d : List ℕ) (z n : ℕ) → (reading_of f s d).answer ≡ Frame.Accepted z n
+      (f : Format) (s d : List ℕ) (z n : ℕ) → (reading_of f s d).answer ≡ Ok (sizes z n)
       → (es : List Edit)
-      → ◌≡◌ {A = Outcome Written} (record { answer = Written.Accepted z; memory = changing f es s })
-      (writing_of f (edited es (take n (reading_of f s d).memory)) s)
+      → leaving (Ok z) (changing f es s) ≡ writing_of f (edited es (take n (reading_of f s d).memory)) s
   pub each_is_judged :
-      (f : Format) (s d : List ℕ) (z n : ℕ) → (reading_of f s d).answer ≡ Frame.Accepted z n
+      (f : Format) (s d : List ℕ) (z n : ℕ) → (reading_of f s d).answer ≡ Ok (sizes z n)
       → (es : List Edit)
       → answers_of f es s
-      ≡ map (λ (e : Edit). cond (ltb e.place n) (Frame.Accepted z n) (Frame.Refused Refusal.BadPlace)) es
+      ≡ map (λ (e : Edit). cond (ltb e.place n) (Ok (sizes z n)) (Err Refusal.BadPlace)) es
   pub last_holds :
       (es : List Edit) (c : List ℕ) (k : ℕ) → k < length c → get_or (edited es c) k 0 ≡ last_at es k (get_or c k 0)
   pub touches_three_bytes :
-      (f : Format) (s d : List ℕ) (z n k b : ℕ) → (reading_of f s d).answer ≡ Frame.Accepted z n → k < n
+      (f : Format) (s d : List ℕ) (z n k b : ℕ) → (reading_of f s d).answer ≡ Ok (sizes z n) → k < n
       → Touched f s (changing_of f s k b).memory (take n (reading_of f s d).memory) k b (place_of f n k)
       (check_place_of f n k)
   pub nothing_else_mends :
-      (c old new k : ℕ) (r : Updated) → c < 65536 → k ≤ 125 → Mends c old new k r → r ≡ updating c old new k
+      (c old new k : ℕ) (r : Result ℕ Refusal) → c < 65536 → k ≤ 125 → Mends c old new k r → r ≡ updating c old new k
 
 -- Document 02, 2/14, soft addresses. Hard or soft is answered of every M, with letters and without: `hard_or_soft`
 -- above. M with its top bit turned has the same letters and the other reach. As received, low byte first, the top bit
@@ -522,7 +504,7 @@ pub record SoftAddresses : Type 0 where
   pub top_bit_received :
       (s : List ℕ) → Bytes s → (k : ℕ) → ((maker_of (two_at s k)).reach ≡ Reach.Soft) ↔ (128 ≤ get_or s (k + 1) 0)
   pub of_the_receiver :
-      (s : List ℕ) (h : Header) (n : ℕ) → header_reading_of s ≡ HeaderReading.Accepted h n → addressed h.kind ≡ true
+      (s : List ℕ) (h : Header) (n : ℕ) → header_reading_of s ≡ Ok (h, n) → addressed h.kind ≡ true
       → h.receiver.m ≡ two_at s 3
   pub turned_in_a_content :
       (s : List ℕ) → Bytes s → 2 < length s
@@ -533,10 +515,10 @@ pub record SoftAddresses : Type 0 where
   pub one_listed :
       (es : List (List ℕ)) (n : ℕ) (s : List ℕ) → length es ≡ 16 → n ≤ 16 → 9 ≤ length s
       → InUse es n (name_of s) → (InUse es n (name_of (top_turned s)) → ⊥)
-      → (verdict_of es n s ≡ Verdict.Wanted) × (verdict_of es n (top_turned s) ≡ Verdict.Unwanted)
+      → (verdict_of es n s ≡ Ok true) × (verdict_of es n (top_turned s) ≡ Ok false)
   pub own_entries :
       (es : List (List ℕ)) (n : ℕ) (s : List ℕ) → length es ≡ 16
-      → verdict_of es n s ≡ Verdict.Wanted → verdict_of es n (top_turned s) ≡ Verdict.Wanted
+      → verdict_of es n s ≡ Ok true → verdict_of es n (top_turned s) ≡ Ok true
       → (i : ℕ) × ((j : ℕ) × ((i ≡ j → ⊥) × (((i < n) × (get_or es i [] ≡ name_of s))
       × ((j < n) × (get_or es j [] ≡ name_of (top_turned s))))))
   pub two_in_the_store :
@@ -547,11 +529,11 @@ pub record SoftAddresses : Type 0 where
 -- allowance is 16,384. Nothing else is read. Reading what was written gives the same store. A meter's number is the
 -- eight bytes of M and A as received. `layout` has one store in both versions, byte by byte.
 pub record StoreFiles : Type 0 where
-  pub accepted_exactly : (f : List ℕ) (st : Store) → Bytes f → (file_of f ≡ Keep st) ↔ IsFile f st
+  pub accepted_exactly : (f : List ℕ) (st : Store) → Bytes f → (file_of f ≡ Ok st) ↔ IsFile f st
   pub written_then_read :
       (s : List ℕ) (st : Store) → Bytes s → Within s st
-      → (d : List ℕ) (size : ℕ) → (writing_store s d).answer ≡ Written.Accepted size
-      → file_of (take size (writing_store s d).memory) ≡ Keep st
+      → (d : List ℕ) (size : ℕ) → (writing_store s d).answer ≡ Ok size
+      → file_of (take size (writing_store s d).memory) ≡ Ok st
   pub as_received : (name : List ℕ) → Bytes name → length name ≡ 8 → key_bytes (key_at name 0) ≡ name
   pub layout :
       let m : Meter = record {
@@ -578,10 +560,10 @@ pub record StoreMeters : Type 0 where
   pub restores :
       (s : List ℕ) (st : Store) → Bytes s → Within s st
       → (f : List ℕ) (file : Store) → Bytes f → IsFile f file
-      → (size : ℕ) → (restoring f s).answer ≡ Written.Accepted size
+      → (size : ℕ) → (restoring f s).answer ≡ Ok size
       → (new : Store) × (Within (restoring f s).memory new × Restores st file new)
   pub begins_a_store :
-      (s : List ℕ) (size : ℕ) → Bytes s → (emptying s).answer ≡ Written.Accepted size
+      (s : List ℕ) (size : ℕ) → Bytes s → (emptying s).answer ≡ Ok size
       → Within (emptying s).memory empty_store × NoneHeld (emptying s).memory
   pub stays_a_store :
       (s : List ℕ) (st : Store) (cs : List Call) → Bytes s → InRanges cs → Within s st
@@ -603,7 +585,7 @@ pub record StorePromise : Type 0 where
 -- its correction behind it is read as before.
 pub record CorrectionPromise : Type 0 where
   pub written_words :
-      (f : Format) (s d : List ℕ) (y : ℕ) → Bytes s → (correcting_of f s d).answer ≡ Written.Accepted y
+      (f : Format) (s d : List ℕ) (y : ℕ) → Bytes s → (correcting_of f s d).answer ≡ Ok y
       → let m = (correcting_of f s d).memory in
       Corrects (take (y - 34) m) (take 32 (drop (y - 32) m))
   pub code_words : (w c : List ℕ) → Bytes w → Corrects w c ↔ (c ≡ checks_of w)
@@ -613,12 +595,12 @@ pub record CorrectionPromise : Type 0 where
       (r u v : List ℕ) → length r ≡ length u → length r ≡ length v → length r ≤ 255 → Bytes u → Bytes v
       → CodeBlock u → CodeBlock v → apart r u ≤ 16 → apart r v ≤ 16 → u ≡ v
   pub announced :
-      (f : Format) (s d : List ℕ) (y : ℕ) → (correcting_of f s d).answer ≡ Written.Accepted y
-      → announced_of (drop (y - 34) (correcting_of f s d).memory) ≡ Announced.ReedSolomon
+      (f : Format) (s d : List ℕ) (y : ℕ) → (correcting_of f s d).answer ≡ Ok y
+      → announced_of (drop (y - 34) (correcting_of f s d).memory) ≡ Ok tt
   pub told_number :
-      (told_announced Announced.ReedSolomon ≡ 0) × ((r : Refusal) → told_announced (Announced.Refused r) ≡ number_of r)
+      (told_announced (Ok tt) ≡ 0) × ((r : Refusal) → told_announced (Err r) ≡ number_of r)
   pub read_as_before :
-      (f : Format) (s d e : List ℕ) (y : ℕ) → (correcting_of f s d).answer ≡ Written.Accepted y
+      (f : Format) (s d e : List ℕ) (y : ℕ) → (correcting_of f s d).answer ≡ Ok y
       → reading_of f (correcting_of f s d).memory e ≡ reading_of f s e
 
 -- Document 02, 12/14, mending. A proposal is taken with d exactly where it is a code word of 11/14 and differs from the
@@ -638,11 +620,11 @@ pub record CorrectionPromise : Type 0 where
 pub record MendingPromise : Type 0 where
   pub taken_exactly :
       (f : Format) (p s : List ℕ) (d : ℕ) → Bytes p
-      → (proposal_of f p s ≡ Proposal.Taken d) ↔ ((z : ℕ) × TakenWith f p s z d)
+      → (proposal_of f p s ≡ Ok d) ↔ ((z : ℕ) × TakenWith f p s z d)
   pub then_read :
-      (f : Format) (p s : List ℕ) (d : ℕ) → Bytes p → proposal_of f p s ≡ Proposal.Taken d
-      → ((z : ℕ) × ((n : ℕ) × (judge_of f p ≡ Frame.Accepted z n)))
-      ⊎ ((b : ℕ) × (judge_of f p ≡ Frame.Refused (Refusal.WrongCheck b)))
+      (f : Format) (p s : List ℕ) (d : ℕ) → Bytes p → proposal_of f p s ≡ Ok d
+      → ((z : ℕ) × ((n : ℕ) × (judge_of f p ≡ Ok (sizes z n))))
+      ⊎ ((b : ℕ) × (judge_of f p ≡ Err (Refusal.WrongCheck b)))
   pub one_wrong_byte :
       (c : List ℕ) (i b : ℕ) → Bytes c → length c ≤ 255 → CodeBlock c → 0 < i → (m : List ℕ) → Nearest 1 (set c i b) m
       → m ≡ c
@@ -652,34 +634,34 @@ pub record MendingPromise : Type 0 where
       (w : List ℕ) → ((c : List ℕ) → Near 1 w c → ⊥) → (m : List ℕ) → Nearest 1 w m → m ≡ w
   pub length_byte_stays : (w m : List ℕ) → Nearest 1 w m → get_or m 0 0 ≡ get_or w 0 0
   pub mended_and_read :
-      (f : Format) (s room : List ℕ) (z n : ℕ) → Bytes s → (reading_of f s room).answer ≡ Frame.Accepted z n → z ≤ 223
+      (f : Format) (s room : List ℕ) (z n : ℕ) → Bytes s → (reading_of f s room).answer ≡ Ok (sizes z n) → z ≤ 223
       → (lent : List ℕ) → z + 34 ≤ length lent
       → let m = (correcting_of f s lent).memory in
       (i b : ℕ) → 1 ≤ i → i < z + 34 → b < 256 → (e : List ℕ) → z + 32 ≤ length e
       → let r = set m i b in
       let differing = apart (received z r) (received z m) in
-      ((correcting_of f s lent).answer ≡ Written.Accepted (z + 34))
+      ((correcting_of f s lent).answer ≡ Ok (z + 34))
       × ((differing ≤ 1) × MendedAgain 1 f s m r e z differing)
   pub taken_once :
       (f : Format) (p q s : List ℕ) (z c d : ℕ) → Bytes p → Bytes q → get_or p 0 0 ≡ get_or q 0 0 → TakenWith f p s z c
-      → proposal_of f q s ≡ Proposal.Taken d → take (z + 32) p ≡ take (z + 32) q
+      → proposal_of f q s ≡ Ok d → take (z + 32) p ≡ take (z + 32) q
   pub written_is_taken :
-      (f : Format) (s lent : List ℕ) (y : ℕ) → Bytes s → (correcting_of f s lent).answer ≡ Written.Accepted y
+      (f : Format) (s lent : List ℕ) (y : ℕ) → Bytes s → (correcting_of f s lent).answer ≡ Ok y
       → let z = y - 34 in
       let word = received z (correcting_of f s lent).memory in
       (r : List ℕ) → y ≤ length r → apart (received z r) word ≤ 16
-      → proposal_of f word r ≡ Proposal.Taken (apart (received z r) word)
+      → proposal_of f word r ≡ Ok (apart (received z r) word)
   pub taken_is_written :
-      (f : Format) (s lent : List ℕ) (y : ℕ) → Bytes s → (correcting_of f s lent).answer ≡ Written.Accepted y
+      (f : Format) (s lent : List ℕ) (y : ℕ) → Bytes s → (correcting_of f s lent).answer ≡ Ok y
       → let z = y - 34 in
       let word = received z (correcting_of f s lent).memory in
       (r : List ℕ) → y ≤ length r → apart (received z r) word ≤ 16
-      → (p : List ℕ) (d : ℕ) → Bytes p → get_or p 0 0 ≡ get_or s 0 0 → proposal_of f p r ≡ Proposal.Taken d
+      → (p : List ℕ) (d : ℕ) → Bytes p → get_or p 0 0 ≡ get_or s 0 0 → proposal_of f p r ≡ Ok d
       → take (z + 32) p ≡ word
   pub two_lengths :
       (s : List ℕ) × ((p : List ℕ) × ((q : List ℕ) × ((Bytes s × (Bytes p × Bytes q))
-      × (((proposal_of Format.B p s ≡ Proposal.Taken 1) × (judge_of Format.B p ≡ Frame.Accepted 77 74))
-      × ((proposal_of Format.B q s ≡ Proposal.Taken 0) × (judge_of Format.B q ≡ Frame.Accepted 13 10))))))
+      × (((proposal_of Format.B p s ≡ Ok 1) × (judge_of Format.B p ≡ Ok (sizes 77 74)))
+      × ((proposal_of Format.B q s ≡ Ok 0) × (judge_of Format.B q ≡ Ok (sizes 13 10)))))))
 
 -- The whole strength of the correction bytes. The proposer for sixteen bytes (`proposing_for_sixteen_bytes`: what it
 -- proposes is `Nearest 16`) mends up to sixteen wrong bytes of frame and check bytes, wherever they stand behind the
@@ -696,24 +678,24 @@ pub record MendingPromise : Type 0 where
 pub record SixteenPromise : Type 0 where
   pub words : MendsSixteen
   pub mended_and_read :
-      (f : Format) (s room : List ℕ) (z n : ℕ) → Bytes s → (reading_of f s room).answer ≡ Frame.Accepted z n → z ≤ 223
+      (f : Format) (s room : List ℕ) (z n : ℕ) → Bytes s → (reading_of f s room).answer ≡ Ok (sizes z n) → z ≤ 223
       → (lent : List ℕ) → z + 34 ≤ length lent
       → let m = (correcting_of f s lent).memory in
       (r : List ℕ) → Bytes r → z + 34 ≤ length r → get_or r 0 0 ≡ get_or m 0 0
       → let differing = apart (received z r) (received z m) in
       differing ≤ 16 → (e : List ℕ) → z + 32 ≤ length e
-      → ((correcting_of f s lent).answer ≡ Written.Accepted (z + 34)) × MendedAgain 16 f s m r e z differing
+      → ((correcting_of f s lent).answer ≡ Ok (z + 34)) × MendedAgain 16 f s m r e z differing
   pub taken_or_none :
-      (f : Format) (s d : List ℕ) (y : ℕ) → Bytes s → (proposing_of 16 f s d).answer ≡ Written.Accepted y
+      (f : Format) (s d : List ℕ) (y : ℕ) → Bytes s → (proposing_of 16 f s d).answer ≡ Ok y
       → let p = (proposing_of 16 f s d).memory in
-      ((k : ℕ) × ((k ≤ 16) × (proposal_of f p s ≡ Proposal.Taken k)))
-      ⊎ (proposal_of f p s ≡ Proposal.Refused Refusal.NotCode)
+      ((k : ℕ) × ((k ≤ 16) × (proposal_of f p s ≡ Ok k)))
+      ⊎ (proposal_of f p s ≡ Err Refusal.NotCode)
   pub seventeen :
       (s : List ℕ) × ((c : List ℕ) × ((p : List ℕ) × ((Bytes s × (Bytes c × Bytes p))
-      × (((apart (received 20 s) c ≡ 17) × (judge_of Format.A c ≡ Frame.Accepted 20 15))
+      × (((apart (received 20 s) c ≡ 17) × (judge_of Format.A c ≡ Ok (sizes 20 15)))
       × (((e : List ℕ) → 52 ≤ length e
-      → proposing_of 16 Format.A s e ≡ record { answer = Written.Accepted 52; memory = p ++ drop 52 e })
-      × ((proposal_of Format.A p s ≡ Proposal.Taken 16) × (judge_of Format.A p ≡ Frame.Accepted 20 15)))))))
+      → proposing_of 16 Format.A s e ≡ record { answer = Ok 52; memory = p ++ drop 52 e })
+      × ((proposal_of Format.A p s ≡ Ok 16) × (judge_of Format.A p ≡ Ok (sizes 20 15))))))))
 
 -- Document 02, 13/14, what damage is always seen (damage/specs). Take a frame that reading accepts and invert at least
 -- one bit of it, all inverted bits lying within 16 consecutive bits, highest bit of a byte first. The result is always
@@ -739,4 +721,4 @@ pub record DamagePromise : Type 1 where
       (k : Kind) (w skip : ℕ) → NeverSent k w skip → (s t : List ℕ) (place : ℕ) (c : List ℕ) → SentAt k s place c
       → ChipBurst w (place + lead_of k + skip) (place + sent_chips k (length c)) s t
       → (j : Kind) (start a : ℕ) (d : List ℕ) (tried z n : ℕ)
-      → (receiving_of j t start a d).answer ≡ Reception.Accepted k place tried z n → ⊥
+      → (receiving_of j t start a d).answer ≡ Ok (reception k place tried z n) → ⊥

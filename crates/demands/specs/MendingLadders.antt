@@ -9,14 +9,13 @@
 --     propose_rule k f s d    a proposal for the received bytes s: the size by their length byte; then propose_steps
 --     propose_steps k z s d   1; 4. Then the code word near what was received, which differs in k bytes or fewer, or
 --                            the received word; the bytes of d after it stay
-use Rattle.std.specs.Prelude.{List, ◌++◌, ◌⊎◌, ◌≡◌, ℕ, ◌+◌, ◌<◌, length, get_or, take, drop}
-use Rattle.answers.specs.declared.Written.{Written}
+use Rattle.std.specs.Prelude.{List, ◌++◌, ◌⊎◌, ◌≡◌, ℕ, ◌+◌, ◌<◌, length, get_or, take, drop, Result, Ok}
+use Rattle.answers.specs.declared.Refusal.{Refusal}
 use Rattle.answers.specs.Outcome.{Outcome}
 use Rattle.ground.specs.Apart.{apart}
 use Rattle.frame.specs.declared.Format.{Format}
 use Rattle.frame.specs.Formats.{frame_size}
 use Rattle.codewords.specs.CodeBlocks.{Corrects}
-use Rattle.proposals.specs.declared.Proposal.{Proposal}
 use Rattle.proposals.specs.Near.{Nearest}
 use Rattle.demands.specs.Rules.{Rule, ◌when◌else◌, given, accept}
 use Rattle.demands.specs.Cases.{Announces, NotAllowed}
@@ -29,25 +28,25 @@ size_steps f s sized =
     23 when 223 < z
     else sized z)
 
-abbrev pub compare_steps : ℕ → List ℕ → List ℕ → Rule Proposal
+abbrev pub compare_steps : ℕ → List ℕ → List ℕ → Rule (Result ℕ Refusal)
 compare_steps z p s =
     let d = apart (take z s ++ take 32 (drop (z + 2) s)) (take (z + 32) p) in
     25 when (Corrects (take z p) (take 32 (drop z p)) → ⊥)
     else 26 when 16 < d
-    else accept (λ r. r ≡ Proposal.Taken d)
+    else accept (λ r. r ≡ Ok d)
 
-abbrev pub judge_rule : Format → List ℕ → List ℕ → Rule Proposal
+abbrev pub judge_rule : Format → List ℕ → List ℕ → Rule (Result ℕ Refusal)
 judge_rule f p s =
     size_steps f p (λ z.
     1 when (length p < z + 32) ⊎ (length s < z + 34)
     else compare_steps z p s)
 
-abbrev pub propose_steps : ℕ → ℕ → List ℕ → List ℕ → Rule (Outcome Written)
+abbrev pub propose_steps : ℕ → ℕ → List ℕ → List ℕ → Rule (Outcome (Result ℕ Refusal))
 propose_steps k z s d =
     1 when length s < z + 34
     else 4 when length d < z + 32
     else given (Nearest k (take z s ++ take 32 (drop (z + 2) s))) (λ m. accept (λ o.
-    o ≡ record { answer = Written.Accepted (z + 32); memory = m ++ drop (z + 32) d }))
+    o ≡ record { answer = Ok (z + 32); memory = m ++ drop (z + 32) d }))
 
-abbrev pub propose_rule : ℕ → Format → List ℕ → List ℕ → Rule (Outcome Written)
+abbrev pub propose_rule : ℕ → Format → List ℕ → List ℕ → Rule (Outcome (Result ℕ Refusal))
 propose_rule k f s d = size_steps f s (λ z. propose_steps k z s d)

@@ -4,8 +4,7 @@
 --                                frame; its span ends before place q. m has b at p and the updated check at q, and else
 --                                what s had. The new check is the update by the old one, the old and the new byte, and
 --                                how many bytes stand between p and the span's end
-use Rattle.std.specs.Prelude.{List, ◌≡◌, ℕ, ◌+◌, ◌-◌, ◌≤◌, ◌<◌, length, get_or, take}
-use Rattle.crc.specs.declared.Updated.{Updated}
+use Rattle.std.specs.Prelude.{List, ◌≡◌, ℕ, ◌+◌, ◌-◌, ◌≤◌, ◌<◌, length, get_or, take, Ok}
 use Rattle.crc.specs.CheckUpdate.{updating}
 use Rattle.blocks.specs.Spans.{size_of}
 use Rattle.blocks.specs.Places.{check_at}
@@ -25,6 +24,6 @@ pub record Touched (f : Format) (s m c : List ℕ) (k b p q : ℕ) : Type 0 wher
   pub place : (x : List ℕ) → length x ≡ length c → get_or (frame_of f x) p 0 ≡ get_or x k 0
   pub held : get_or s p 0 ≡ get_or c k 0
   pub byte : get_or m p 0 ≡ b
-  pub check : updating (check_at s q) (get_or s p 0) b (q - (p + 1)) ≡ Updated.Accepted (check_at m q)
+  pub check : updating (check_at s q) (get_or s p 0) b (q - (p + 1)) ≡ Ok (check_at m q)
   pub others : (i : ℕ) → (i ≡ p → ⊥) → (i ≡ q → ⊥) → (i ≡ q + 1 → ⊥) → get_or m i 0 ≡ get_or s i 0
   pub size : length m ≡ length s

@@ -11,40 +11,39 @@ use mathlib.Core.Logic.{◌↔◌}
 use mathlib.Core.Path.{◌≡◌, refl, sym, ◌∙◌, ap}
 use Prim.Native.Nat.{ℕ, ◌+◌, ◌≤◌, ◌<◌}
 use lib.ListN.{get_or, take, replicate}
+use Rattle.std.specs.Prelude.{Ok, Option, Some, None}
 use Rattle.ground.specs.Bytes.{Bytes}
 use Rattle.ground.proofs.CaseLaws.{zero_not_one}
 use Rattle.address.specs.Makers.{maker_of}
 use Rattle.address.specs.Names.{two_at}
 use Rattle.address.specs.declared.Reach.{Reach}
-use Rattle.address.specs.declared.Spelling.{Spelling}
 use Rattle.header.specs.declared.layout.Header.{Header}
-use Rattle.header.specs.declared.reading.HeaderReading.{HeaderReading}
 use Rattle.header.specs.Layout.{addressed}
 use Rattle.header.specs.HeaderReads.{header_reading_of}
 use Rattle.kusikhut.specs.Told.{Told, told, reach_number, spelling_row, told_maker}
 use Rattle.demands.specs.Cases.{Spells}
 use Rattle.demands.proofs.Demands.{plain, soft_addresses}
 
-row-letters : (l : Spelling) (k : ℕ) → take 4 (spelling_row l ++ (k ∷ [])) ≡ spelling_row l
-row-letters (Spelling.Three a b c) k = refl
-row-letters Spelling.NoLetters k = refl
+row-letters : (l : Option (ℕ × ℕ × ℕ)) (k : ℕ) → take 4 (spelling_row l ++ (k ∷ [])) ≡ spelling_row l
+row-letters (Some (a, b, c)) k = refl
+row-letters None k = refl
 
-row_reach : (l : Spelling) (k : ℕ) → get_or (spelling_row l ++ (k ∷ [])) 4 0 ≡ k
-row_reach (Spelling.Three a b c) k = refl
-row_reach Spelling.NoLetters k = refl
+row_reach : (l : Option (ℕ × ℕ × ℕ)) (k : ℕ) → get_or (spelling_row l ++ (k ∷ [])) 4 0 ≡ k
+row_reach (Some (a, b, c)) k = refl
+row_reach None k = refl
 
-three_row : (l : Spelling) (x y z : ℕ) → spelling_row l ≡ 1 ∷ x ∷ y ∷ z ∷ [] → l ≡ Spelling.Three x y z
-three_row (Spelling.Three a b c) x y z e = cc
-three_row Spelling.NoLetters x y z e = absurd (zero_not_one (cc))
+three_row : (l : Option (ℕ × ℕ × ℕ)) (x y z : ℕ) → spelling_row l ≡ 1 ∷ x ∷ y ∷ z ∷ [] → l ≡ Some (x, y, z)
+three_row (Some (a, b, c)) x y z e = cc
+three_row None x y z e = absurd (zero_not_one (cc))
 
-none_row : (l : Spelling) → spelling_row l ≡ replicate 4 0 → l ≡ Spelling.NoLetters
-none_row (Spelling.Three a b c) e = absurd (zero_not_one (cc))
-none_row Spelling.NoLetters e = refl
+none_row : (l : Option (ℕ × ℕ × ℕ)) → spelling_row l ≡ replicate 4 0 → l ≡ None
+none_row (Some (a, b, c)) e = absurd (zero_not_one (cc))
+none_row None e = refl
 
 -- which it is, if it is not three letters
-no_three : (l : Spelling) → ((x y z : ℕ) → l ≡ Spelling.Three x y z → ⊥) → l ≡ Spelling.NoLetters
-no_three (Spelling.Three a b c) none = absurd (none a b c refl)
-no_three Spelling.NoLetters none = refl
+no_three : (l : Option (ℕ × ℕ × ℕ)) → ((x y z : ℕ) → l ≡ Some (x, y, z) → ⊥) → l ≡ None
+no_three (Some (a, b, c)) none = absurd (none a b c refl)
+no_three None none = refl
 
 hard_number : (r : Reach) → (reach_number r ≡ 0) ↔ (r ≡ Reach.Hard)
 hard_number Reach.Hard = (λ e. refl, λ e. refl)
@@ -55,7 +54,7 @@ soft_number Reach.Hard = (λ e. absurd (zero_not_one e), λ e. absurd (zero_not_
 soft_number Reach.Soft = (λ e. refl, λ e. refl)
 
 module _ (m : ℕ) {r : ℕ} {row : List ℕ} (e : told r row ≡ told_maker (maker_of m)) where
-  abbrev l : Spelling
+  abbrev l : Option (ℕ × ℕ × ℕ)
   l = (maker_of m).spelled
 
   maker_row : row ≡ spelling_row l ++ (reach_number (maker_of m).reach ∷ [])
@@ -106,10 +105,11 @@ soft_received s k m bytes is e =
 
 pub soft_receiver :
     (s : List ℕ) (h g : Header) (n k : ℕ) {r : ℕ} {row : List ℕ} → Bytes s
-    → header_reading_of s ≡ HeaderReading.Accepted h n → addressed h.kind ≡ true
-    → header_reading_of s ≡ HeaderReading.Accepted g k → told r row ≡ told_maker (maker_of g.receiver.m)
+    → header_reading_of s ≡ Ok (h, n) → addressed h.kind ≡ true
+    → header_reading_of s ≡ Ok (g, k) → told r row ≡ told_maker (maker_of g.receiver.m)
     → (get_or row 4 0 ≡ 1) ↔ (128 ≤ get_or s 4 0)
 soft_receiver s h g n k bytes accepted has read e =
-    let same : g ≡ h = cc in
+    let read_alike : (g, k) ≡ (h, n) = (let both = sym read ∙ accepted in cc) in
+    let same = ap (λ (p : Header × ℕ). p.0) read_alike in
     let place = soft_addresses.of_the_receiver s h n accepted has in
     soft_received s 3 g.receiver.m bytes (ap (λ (x : Header). x.receiver.m) same ∙ place) e

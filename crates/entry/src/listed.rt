@@ -1,10 +1,8 @@
 // The channels of mode N and the lines of a band: each number is told exactly in its case.
-ghost use Rattle.std.specs.Prelude.{[], ◌∷◌, ◌↔◌, ◌⊎◌, ◌≡◌, ℕ, ◌≤◌, ◌<◌, length, get_or};
-ghost use Rattle.channels.specs.declared.listing.Band.{Band};
-ghost use Rattle.channels.specs.declared.listing.Line.{Line};
+ghost use Rattle.std.specs.Prelude.{[], ◌∷◌, ◌↔◌, ◌⊎◌, ◌≡◌, ℕ, ◌≤◌, ◌<◌, length, slice_get, Some, None};
 ghost use Rattle.channels.specs.Table21.{channels_of, quarters_of};
 ghost use Rattle.channels.specs.Plan.{float};
-ghost use Rattle.channels.specs.Listing.{band_of, lines_of};
+ghost use Rattle.channels.specs.Listing.{band_of, lines_of, channel_line};
 ghost use Rattle.kusikhut.specs.Told.{told};
 
 use channels::Band;
@@ -32,13 +30,13 @@ fn no_line(band: &[u8], k: usize, results: &mut [u64; 3]) -> u8
 
 fn a_line(band: &[u8], k: usize, results: &mut [u64; 3]) -> u8
     ensures { (i c h : ℕ) → (told result results.new ≡ told 0 (i ∷ c ∷ h ∷ []))
-        ↔ (get_or (lines_of (band_of band.now)) k Line.End ≡ Line.Channel i c h) }
+        ↔ (slice_get (lines_of (band_of band.now)) k ≡ Some (channel_line i c h)) }
 {
     kusikhut_band_line(band, k, results)
 }
 
-fn no_band(s: &[u8]) -> Band
-    ensures { (result ≡ Band.NoSuch)
+fn no_band(s: &[u8]) -> Option<Band>
+    ensures { (result ≡ None)
         ↔ ((x : ℕ) → 65 ≤ x → x ≤ 68 → ((s.now ≡ x ∷ []) ⊎ (s.now ≡ x ∷ 10 ∷ [])) → ⊥) }
 {
     channels::band_of(s)

@@ -1,35 +1,31 @@
 // The calls on proposals, each under the name of its field on the page of demands; and a frame on its way through a
 // cellar.
-ghost use Rattle.std.specs.Prelude.{List, ◌≡◌, ℕ};
-ghost use Rattle.answers.specs.declared.Written.{Written};
-ghost use Rattle.answers.specs.Outcome.{Outcome};
-ghost use Rattle.frame.specs.declared.Frame.{Frame};
+ghost use Rattle.std.specs.Prelude.{List, ◌≡◌, ℕ, Ok, Err};
+ghost use Rattle.answers.specs.Outcome.{leaving};
 ghost use Rattle.frame.specs.Reads.{reading_of};
 ghost use Rattle.codewords.specs.Corrections.{correcting_of};
-ghost use Rattle.proposals.specs.declared.Proposal.{Proposal};
 ghost use Rattle.demands.specs.Rules.{Judged, JudgedLent};
 ghost use Rattle.demands.specs.MendingLadders as rule;
 
-use answers::Written;
+use answers::Refusal;
 use frame::{Format, Frame};
-use proposals::Proposal;
 
-fn judging_a_proposal(f: Format, p: &[u8], s: &[u8]) -> Proposal
-    ensures { Judged Proposal.Refused (rule.judge_rule f p.now s.now) result }
+fn judging_a_proposal(f: Format, p: &[u8], s: &[u8]) -> Result<usize, Refusal>
+    ensures { Judged Err (rule.judge_rule f p.now s.now) result }
 {
     mending::judge(f, p, s)
 }
 
-fn proposing_for_one_byte(f: Format, s: &[u8], d: &mut [u8]) -> Written
-    ensures { JudgedLent Written.Refused d.old (rule.propose_rule 1 f s.now d.old)
-        (record { answer = result; memory = d.new }) }
+fn proposing_for_one_byte(f: Format, s: &[u8], d: &mut [u8]) -> Result<usize, Refusal>
+    ensures { JudgedLent Err d.old (rule.propose_rule 1 f s.now d.old)
+        (leaving result d.new) }
 {
     mending::propose_one(f, s, d)
 }
 
-fn proposing_for_sixteen_bytes(f: Format, s: &[u8], d: &mut [u8]) -> Written
-    ensures { JudgedLent Written.Refused d.old (rule.propose_rule 16 f s.now d.old)
-        (record { answer = result; memory = d.new }) }
+fn proposing_for_sixteen_bytes(f: Format, s: &[u8], d: &mut [u8]) -> Result<usize, Refusal>
+    ensures { JudgedLent Err d.old (rule.propose_rule 16 f s.now d.old)
+        (leaving result d.new) }
 {
     mending::propose(f, s, d)
 }
@@ -47,13 +43,12 @@ fn through_a_cellar(
     byte: u8,
     proposal: &mut [u8],
     d: &mut [u8],
-) -> Frame
-    ensures { ◌≡◌ {A = Outcome Frame} (record { answer = result; memory = d.new })
-        (reading_of f s.now d.old) }
+) -> Result<Frame, Refusal>
+    ensures { leaving result d.new ≡ reading_of f s.now d.old }
 {
     match correction::write(f, s, sent) {
-        Written::Refused(_) => frame::read(f, s, d),
-        Written::Accepted(size) => mended_and_read(f, s, sent, size, place, byte, proposal, d),
+        Err(_) => frame::read(f, s, d),
+        Ok(size) => mended_and_read(f, s, sent, size, place, byte, proposal, d),
     }
 }
 
@@ -67,25 +62,15 @@ fn mended_and_read(
     byte: u8,
     proposal: &mut [u8],
     d: &mut [u8],
-) -> Frame
-    requires { (lent : List ℕ) × (◌≡◌ {A = Outcome Written}
-        (record { answer = Written.Accepted size; memory = sent.old }) (correcting_of f s.now lent)) }
-    ensures { ◌≡◌ {A = Outcome Frame} (record { answer = result; memory = d.new })
-        (reading_of f s.now d.old) }
+) -> Result<Frame, Refusal>
+    requires { (lent : List ℕ) × (leaving (Ok size) sent.old ≡ correcting_of f s.now lent) }
+    ensures { leaving result d.new ≡ reading_of f s.now d.old }
 {
-    if place < 1 {
-        return frame::read(f, s, d);
-    }
-    if size <= place {
-        return frame::read(f, s, d);
-    }
-    if proposal.len() < size {
+    if place < 1 || size <= place || proposal.len() < size {
         return frame::read(f, s, d);
     }
     sent[place] = byte;
-    mending::propose_one(f, sent, proposal);
-    match mending::judge(f, proposal, sent) {
-        Proposal::Refused(why) => Frame::Refused(why),
-        Proposal::Taken(_) => frame::read(f, proposal, d),
-    }
+    mending::propose_one(f, sent, proposal)?;
+    mending::judge(f, proposal, sent)?;
+    frame::read(f, proposal, d)
 }

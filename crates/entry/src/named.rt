@@ -1,13 +1,11 @@
 // What M says, as a caller in C is told it (document 02, 2/14): the letters and hard or soft, each exactly in its case,
 // whatever the other is; and by the bytes as they were received, M of a content and M2 of a header.
-ghost use Rattle.std.specs.Prelude.{true, [], ◌∷◌, ◌↔◌, ◌≡◌, ℕ, ◌≤◌, ◌<◌, length, get_or, take, replicate};
+ghost use Rattle.std.specs.Prelude.{true, [], ◌∷◌, ◌↔◌, ◌≡◌, ℕ, ◌≤◌, ◌<◌, length, get_or, take, replicate, Ok};
 ghost use Rattle.header.specs.declared.layout.Header.{Header};
-ghost use Rattle.header.specs.declared.reading.HeaderReading.{HeaderReading};
 ghost use Rattle.header.specs.Layout.{addressed};
 ghost use Rattle.header.specs.HeaderReads.{header_reading_of};
 ghost use Rattle.demands.specs.Cases.{Spells};
 
-use header::HeaderReading;
 use kusikhut::kusikhut_maker;
 
 fn letters(m: u16, results: &mut [u64; 5]) -> u8
@@ -33,15 +31,12 @@ fn of_a_content(content: &[u8], results: &mut [u64; 5]) -> u8
 }
 
 fn of_a_header(body: &[u8], results: &mut [u64; 5]) -> u8
-    ensures { (h : Header) (n : ℕ) → header_reading_of body.now ≡ HeaderReading.Accepted h n
+    ensures { (h : Header) (n : ℕ) → header_reading_of body.now ≡ Ok (h, n)
         → addressed h.kind ≡ true
         → (get_or results.new 4 0 ≡ 1) ↔ (128 ≤ get_or body.now 4 0) }
 {
     match header::read(body) {
-        HeaderReading::Accepted(h, n) => {
-            let receiver = h.receiver;
-            kusikhut_maker(receiver.m, results)
-        }
-        HeaderReading::Refused(why) => answers::number(why),
+        Ok((h, _)) => kusikhut_maker(h.receiver.m, results),
+        Err(why) => why.number(),
     }
 }

@@ -10,7 +10,7 @@ ghost use Rattle.header.specs.declared.layout.HeaderKind.TheVariants.{Plain, Sec
 ghost use Rattle.line.specs.declared.codes.Code.TheVariants.{Nrz, ThreeOfSix, Manchester};
 ghost use Rattle.proposals.specs.Proposals.{proposal_of};
 ghost use Rattle.sync.specs.SyncSearch.{search_of};
-ghost use Rattle.kusikhut.specs.Told.{told, shown, told_updated, told_centre, told_sync, told_proposal};
+ghost use Rattle.kusikhut.specs.Told.{told, shown, told_number, told_centre, told_sync};
 ghost use Rattle.kusikhut.specs.Calls.{call_receive, call_decode, call_header, header_of};
 
 use kusikhut::{
@@ -73,7 +73,7 @@ fn receive(
 }
 
 fn update(old_check: u16, old_byte: u8, new_byte: u8, distance: usize, results: &mut [u64; 1]) -> u8
-    ensures { told result results.new ≡ told_updated (updating old_check old_byte new_byte distance) }
+    ensures { told result results.new ≡ told_number (updating old_check old_byte new_byte distance) }
 {
     kusikhut_update(old_check, old_byte, new_byte, distance, results)
 }
@@ -132,14 +132,14 @@ fn header_write_8f(
 
 fn judge_a(proposal: &[u8], received: &[u8], results: &mut [u64; 1]) -> u8
     ensures { told result results.new
-        ≡ told_proposal (proposal_of Format.A proposal.now received.now) }
+        ≡ told_number (proposal_of Format.A proposal.now received.now) }
 {
     kusikhut_mending_judge_a(proposal, received, results)
 }
 
 fn judge_b(proposal: &[u8], received: &[u8], results: &mut [u64; 1]) -> u8
     ensures { told result results.new
-        ≡ told_proposal (proposal_of Format.B proposal.now received.now) }
+        ≡ told_number (proposal_of Format.B proposal.now received.now) }
 {
     kusikhut_mending_judge_b(proposal, received, results)
 }

@@ -2,8 +2,7 @@
 -- tells them apart; the polynomial that alpha is a root of does.
 --     alpha_root    alpha is a root of x^8 + x^7 + x^2 + x + 1
 -- Assumes nothing.
-use mathlib.Core.Path.{◌≡◌, refl}
-use lib.Bits.{bit_xor}
+use Rattle.std.proofs.Common.{◌≡◌, refl, bit_xor}
 use Rattle.field.specs.Field.{up, alpha_to}
 
 pub alpha_root : bit_xor (alpha_to 8) (bit_xor (alpha_to 7) (bit_xor (alpha_to 2) (bit_xor (alpha_to 1) 1))) ≡ 0

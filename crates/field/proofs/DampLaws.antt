@@ -10,13 +10,9 @@
 --     damp_value                 its value at g^j, from the old ones at g^(j + 1) and g^j
 --     damp_weight                with the locator of a place in front of it the word keeps its weight
 -- Assumes nothing.
-use mathlib.Core.Path.{◌≡◌, refl, sym, ap, ap₂, ◌∙◌}
-use mathlib.Core.List.{List, [], ◌∷◌}
-use Prim.Native.Nat.{ℕ, zero, suc, ◌+◌, ◌<◌, ◌≤◌}
-use native.Mathlib.Omega.{arith}
-use native.Mathlib.Nat.{pos_of_ne-zero}
-use lib.Bits.{bit_xor, xor_lt}
-use lib.ListN.{length, replicate}
+use Rattle.std.proofs.Common.{◌≡◌, refl, sym, ap, ap₂, ◌∙◌, List, [], ◌∷◌, ℕ, zero, suc, ◌+◌, ◌<◌, ◌≤◌, arith}
+use Rattle.std.proofs.Common.{pos_of_ne-zero, bit_xor, length, replicate}
+use lib.Bits.{xor_lt}
 use Rattle.ground.specs.Bytes.{Bytes}
 use Rattle.ground.proofs.ByteLaws.{bytes-nil, bytes-cons}
 use Rattle.ground.proofs.XorLaws.{xor_swap, xor_equal}

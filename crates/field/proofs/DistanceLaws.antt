@@ -6,14 +6,9 @@
 --     weight_apart   the sum of two words is 0 where they do not differ
 --     distance       two words of one length, 0 there, that differ at no more than 32 places are one
 -- Assumes nothing.
-use mathlib.Core.Bool.{Bool, true, false, cond}
-use mathlib.Core.Path.{◌≡◌, refl, sym, ap, ap₂, ◌∙◌, subst}
-use mathlib.Core.List.{List, [], ◌∷◌}
-use Prim.Native.Nat.{ℕ, zero, suc, ◌+◌, ◌*◌, ◌<◌, ◌≤◌}
-use native.Mathlib.Omega.{arith}
-use lib.Bits.{bit_xor, xor_self, xor_zero_r}
-use lib.Dec.{T, eqb, eqb→eq}
-use lib.ListN.{length, replicate}
+use Rattle.std.proofs.Common.{Bool, true, false, cond, ◌≡◌, refl, sym, ap, ap₂, ◌∙◌, subst, List, [], ◌∷◌, ℕ, zero, suc}
+use Rattle.std.proofs.Common.{◌+◌, ◌*◌, ◌<◌, ◌≤◌, arith, bit_xor, T, eqb, eqb→eq, length, replicate}
+use lib.Bits.{xor_self, xor_zero_r}
 use Rattle.ground.specs.Apart.{apart}
 use Rattle.ground.specs.Bytes.{Bytes}
 use Rattle.ground.specs.Sums.{xors}

@@ -9,13 +9,9 @@
 --     one-mul                     1 times a byte: one computed row of 256, from which the next two follow
 --     mul_comm, mul_assoc         for bytes, neither order nor brackets matter
 -- Assumes nothing.
-use mathlib.Core.Bool.{Bool}
-use mathlib.Core.Path.{◌≡◌, refl, sym, ap, ap₂, ◌∙◌}
-use Prim.Native.Nat.{ℕ, zero, suc, ◌*◌, ◌/◌, ◌%◌, ◌<◌}
-use native.Mathlib.Omega.{arith}
-use native.Mathlib.Nat.{zero-mul}
-use lib.Bits.{bit_xor, xor_shr, xor_mod, xor_self, xor_zero_r, xor_lt}
-use lib.Dec.{eqb, eqb→eq}
+use Rattle.std.proofs.Common.{Bool, ◌≡◌, refl, sym, ap, ap₂, ◌∙◌, ℕ, zero, suc, ◌*◌, ◌/◌, ◌%◌, ◌<◌, arith, zero-mul}
+use Rattle.std.proofs.Common.{bit_xor, eqb, eqb→eq}
+use lib.Bits.{xor_shr, xor_mod, xor_self, xor_zero_r, xor_lt}
 use Rattle.ground.proofs.XorLaws.{xor_swap, xor-shl}
 use Rattle.ground.proofs.TableLaws.{all_below_at}
 use Rattle.field.specs.Field.{up, times_bits, mul}

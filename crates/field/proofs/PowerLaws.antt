@@ -4,10 +4,7 @@
 --     alpha_to-mod     alpha^255 is 1, so only the remainder by 255 counts
 --     power_cancel    nothing but 0 times a power is 0
 -- Assumes nothing.
-use mathlib.Core.Path.{◌≡◌, refl, sym, ap, ◌∙◌}
-use Prim.Native.Nat.{ℕ, zero, suc, ◌+◌, ◌*◌, ◌/◌, ◌%◌, ◌<◌}
-use native.Mathlib.Omega.{arith}
-use native.Mathlib.Nat.{zero-add}
+use Rattle.std.proofs.Common.{◌≡◌, refl, sym, ap, ◌∙◌, ℕ, zero, suc, ◌+◌, ◌*◌, ◌/◌, ◌%◌, ◌<◌, arith, zero-add}
 use Rattle.field.specs.Field.{up, mul, alpha_to}
 use Rattle.field.proofs.FieldLaws.{up_lt, mul_up, mul_one, one-mul, mul-zero_l, mul_assoc}
 

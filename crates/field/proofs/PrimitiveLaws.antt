@@ -6,14 +6,8 @@
 --     powers_differ            so no two of them are one
 --     mul_cancel               no two elements but 0 have the product 0
 -- Assumes nothing.
-use mathlib.Core.Bool.{Bool, true, false}
-use mathlib.Core.Path.{◌≡◌, sym, ap, ◌∙◌}
-use mathlib.Core.List.{List, [], ◌∷◌}
-use Prim.Native.Nat.{ℕ, zero, suc, ◌+◌, ◌<◌}
-use native.Mathlib.Omega.{arith}
-use native.Mathlib.Nat.{zero-add, add-zero}
-use lib.Dec.{eqb, eqb→eq, ltb, ltb→lt}
-use lib.ListN.{get_or}
+use Rattle.std.proofs.Common.{Bool, true, false, ◌≡◌, sym, ap, ◌∙◌, List, [], ◌∷◌, ℕ, zero, suc, ◌+◌, ◌<◌, arith}
+use Rattle.std.proofs.Common.{zero-add, add-zero, eqb, eqb→eq, ltb, ltb→lt, get_or}
 use Rattle.ground.proofs.TableLaws.{all_below_at}
 use Rattle.field.specs.Field.{up, mul, alpha_to}
 use Rattle.field.proofs.PowerLaws.{power_cancel}

@@ -3,11 +3,7 @@
 --     step_to-add      a product of powers
 --     steps_differ    the powers 0 to 254 are all different, since 11 has no factor in common with 255
 -- Assumes nothing.
-use mathlib.Core.Bool.{Bool}
-use mathlib.Core.Path.{◌≡◌, sym, ap, ◌∙◌}
-use Prim.Native.Nat.{ℕ, ◌+◌, ◌*◌, ◌%◌, ◌<◌}
-use native.Mathlib.Omega.{arith}
-use lib.Dec.{eqb, eqb→eq}
+use Rattle.std.proofs.Common.{Bool, ◌≡◌, sym, ap, ◌∙◌, ℕ, ◌+◌, ◌*◌, ◌%◌, ◌<◌, arith, eqb, eqb→eq}
 use Rattle.ground.proofs.TableLaws.{all_below_at}
 use Rattle.field.specs.Field.{mul, alpha_to}
 use Rattle.field.proofs.PowerLaws.{alpha_to-add, alpha_to-mod}

@@ -82,7 +82,8 @@ read_handed :
     (f : Format) (s d m : List ℕ) {z n : ℕ} → reading_of f s d ≡ record { answer = Ok (sizes z n); memory = m }
     → Handed f s d z n m (content_in f n s)
 read_handed f s d m e =
-    rw (ap (λ (o : Outcome (Result Frame Refusal)). o.memory) e) at (read-accepted f s d (ap (λ (o : Outcome (Result Frame Refusal)). o.answer) e))
+    let answer = ap (λ (o : Outcome (Result Frame Refusal)). o.answer) e in
+    rw (ap (λ (o : Outcome (Result Frame Refusal)). o.memory) e) at (read-accepted f s d answer)
 
 pub read_exactly :
     (f : Format) (s d m : List ℕ) (z n : ℕ)

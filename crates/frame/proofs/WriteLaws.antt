@@ -42,8 +42,7 @@ module _ (f : Format) (c d : List ℕ) where
     writing_of_no_room h =
         rw (within_true _ _ (length c) low high, lt-ltb (length d) (frame_size f (length c)) h)
 
-    pub writing_of-accepted :
-        frame_size f (length c) ≤ length d
+    pub writing_of-accepted : frame_size f (length c) ≤ length d
         → writing_of f c d
         ≡ record {
           answer = Ok (frame_size f (length c));

@@ -27,7 +27,8 @@ module _ (s : List ℕ) where
   pub header_reading_of_named :
       (length s ≡ 0 → ⊥) → {c : Result HeaderKind Refusal} → header_kind_of (get_or s 0 0) ≡ c
       → header_reading_of s ≡ header_reading_as c s
-  header_reading_of_named there e = rw (ne_eqb (length s) 0 there) (ap (λ (c : Result HeaderKind Refusal). header_reading_as c s) e)
+  header_reading_of_named there e =
+      rw (ne_eqb (length s) 0 there) (ap (λ (c : Result HeaderKind Refusal). header_reading_as c s) e)
 
   module _ (k : HeaderKind) where
     pub header_reading_as-lt : length s < header_length k → header_reading_as (Ok k) s ≡ Err ShortBody
@@ -57,7 +58,9 @@ header_kind_of_stands ci = or Plain (or Secured (or Addressed (or AddressedSecur
     by_test k true p n = is_kind (eqb-true ci (ci_of k) p)
     by_test k false p n = n
 
-    or : (k : HeaderKind) {c : Result HeaderKind Refusal} → StandsFor ci c → StandsFor ci (cond (eqb ci (ci_of k)) (Ok k) c)
+    or :
+        (k : HeaderKind) {c : Result HeaderKind Refusal} → StandsFor ci c
+        → StandsFor ci (cond (eqb ci (ci_of k)) (Ok k) c)
     or k n = by_test k (eqb ci (ci_of k)) refl n
 
 unknown_ci : {ci : ℕ} {r : Refusal} → StandsFor ci (Err r) → r ≡ UnknownCi

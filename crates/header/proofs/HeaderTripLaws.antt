@@ -38,7 +38,8 @@ pub header_reading_of-header_bytes :
 header_reading_of-header_bytes h t =
     header_reading_of_named (header_bytes h ++ t) (λ e. omega arith) (header_kind_of_ci_of h.kind)
     ∙ header_reading_as-le (header_bytes h ++ t) h.kind (header_length-append h t)
-    ∙ ap (λ (x : Header). let r : Result (Header × ℕ) Refusal = Ok (x, header_length h.kind) in r) (header_in-header_bytes h t)
+    ∙ ap (λ (x : Header). let r : Result (Header × ℕ) Refusal = Ok (x, header_length h.kind) in r)
+    (header_in-header_bytes h t)
 
 pub header_read_write :
     (h : Header) (d : List ℕ) → header_length h.kind ≤ length d

@@ -30,8 +30,7 @@ module _ (h : Header) (d : List ℕ) where
       (sets_then (ci_of h.kind ∷ h.cc ∷ h.acc ∷ []) (receiver_part h.kind h.receiver) d 0 refl p)
       (q ∙ ap (λ (k : ℕ). sets m k (session_part h.kind h.session)) (sym behind))
 
-  pub sets-header_bytes :
-      {m n : List ℕ} → header_length h.kind ≤ length d
+  pub sets-header_bytes : {m n : List ℕ} → header_length h.kind ≤ length d
       → m ≡ sets (sets d 0 (ci_of h.kind ∷ h.cc ∷ h.acc ∷ [])) receiver_place (receiver_part h.kind h.receiver)
       → n ≡ sets m (session_place h.kind) (session_part h.kind h.session)
       → n ≡ header_bytes h ++ drop (header_length h.kind) d

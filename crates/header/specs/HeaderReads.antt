@@ -61,7 +61,8 @@ header_in k s =
 
 abbrev pub header_reading_as : Result HeaderKind Refusal → List ℕ → Result (Header × ℕ) Refusal
 header_reading_as (Err r) s = Err r
-header_reading_as (Ok k) s = cond (ltb (length s) (header_length k)) (Err ShortBody) (Ok (header_in k s, header_length k))
+header_reading_as (Ok k) s =
+    cond (ltb (length s) (header_length k)) (Err ShortBody) (Ok (header_in k s, header_length k))
 
 abbrev pub header_reading_of : List ℕ → Result (Header × ℕ) Refusal
 header_reading_of s = cond (eqb (length s) 0) (Err ShortBody) (header_reading_as (header_kind_of (get_or s 0 0)) s)

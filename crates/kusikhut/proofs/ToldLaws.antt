@@ -1,15 +1,13 @@
--- An answer told as a row, with the memory that the call left, is the outcome told; a reception's row has its places.
+-- What is told of calls.
+--     shown_tells    an answer told as a row, with the memory that the call left, is the outcome told
 --     settled_told, settled_shown    two calls that are told the same have the same number, row and lent memory: what
 --                                    the contract of an exported function allows is one outcome (docs/SETTLED.md)
 use mathlib.Core.Path.{◌≡◌, refl, ap}
-use mathlib.Core.Bool.{Bool, true, false, cond}
 use mathlib.Core.List.{List}
-use Prim.Native.Nat.{ℕ, ◌<◌}
-use native.Mathlib.Omega.{arith}
-use lib.Dec.{eqb}
+use Prim.Native.Nat.{ℕ}
 use Rattle.answers.specs.Outcome.{Outcome}
 use Rattle.answers.proofs.Settled.{settled, settled_outcome}
-use Rattle.kusikhut.specs.Told.{Told, told, shown, tells, refusal_place}
+use Rattle.kusikhut.specs.Told.{Told, told, shown, tells}
 
 pub shown_tells :
     {A : Type 0} (f : A → Told ℕ) {a : A} {r : ℕ} {v m : List ℕ} {o : Outcome A}
@@ -24,12 +22,3 @@ pub settled_shown :
     {m : Outcome (Told ℕ)} {r s : ℕ} {v w d e : List ℕ}
     → shown r v d ≡ m → shown s w e ≡ m → ((r ≡ s) × (v ≡ w)) × (d ≡ e)
 settled_shown p q = (settled_told (settled_outcome p q).0 refl, (settled_outcome p q).1)
-
-cond-lt_7 : (a b c : Bool) → cond a 5 (cond b 6 (cond c 1 2)) < 7
-cond-lt_7 true b c = omega arith
-cond-lt_7 false true c = omega arith
-cond-lt_7 false false true = omega arith
-cond-lt_7 false false false = omega arith
-
-pub refusal_place-lt : (n : ℕ) → refusal_place n < 7
-refusal_place-lt n = cond-lt_7 (eqb n 3) (eqb n 6) (eqb n 8)

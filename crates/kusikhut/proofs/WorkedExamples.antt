@@ -10,6 +10,7 @@ use mathlib.Core.List.{List, [], ◌∷◌, ◌++◌, map}
 use mathlib.Core.Path.{◌≡◌, refl}
 use Prim.Native.Nat.{ℕ}
 use lib.ListN.{replicate}
+use Rattle.std.specs.Prelude.{Ok, Err, Some, None, true, false}
 use Rattle.answers.specs.declared.Refusal.{Refusal}
 use Rattle.chips.specs.Chips.{gather}
 use Rattle.chips.specs.Packing.{tabulate, packed}
@@ -17,23 +18,19 @@ use Rattle.line.specs.Codes.{number_for}
 use Rattle.line.specs.Decoding.{good_run, decoding}
 use Rattle.crc.specs.Check.{bit_in, bits_in, byte_in, reg_of, check_of}
 use Rattle.sync.specs.declared.Kind.{Kind}
-use Rattle.sync.specs.declared.Sync.{Sync}
-use Rattle.sync.specs.SyncSearch.{passed, search_for}
+use Rattle.sync.specs.SyncSearch.{passed, found, search_for}
 use Rattle.sync.specs.Tails.{tail_of}
 use Rattle.blocks.specs.Spans.{payload, block_ok, first_wrong, size_of, cut}
-use Rattle.frame.specs.declared.Frame.{Frame}
-use Rattle.frame.specs.Formats.{frame_size}
+use Rattle.frame.specs.Formats.{frame_size, sizes}
 use Rattle.frame.specs.Frames.{content_in}
 use Rattle.frame.specs.Judging.{by_checks, by_length, judge_of}
 use Rattle.frame.specs.Reads.{taken_out, reading_of}
 use Rattle.frame.proofs.WorkedExamples.{content_C2}
-use Rattle.radio.specs.declared.Reception.{Reception}
-use Rattle.radio.specs.Receiving.{after_words, by_size, frame_after, by_tail, by_sync, reception_of}
+use Rattle.radio.specs.Receiving.{reception, after_words, by_size, frame_after, by_tail, by_sync, reception_of}
 use Rattle.address.specs.Makers.{maker_of}
 use Rattle.header.specs.declared.layout.HeaderKind.{HeaderKind}
 use Rattle.header.specs.HeaderReads.{header_reading_of}
-use Rattle.filter.specs.declared.Verdict.{Verdict}
-use Rattle.channels.specs.declared.listing.Line.{Line}
+use Rattle.channels.specs.Listing.{channel_line}
 use Rattle.kusikhut.specs.Told.{told, shown, kind_number, told_frame, told_sync, told_maker, told_verdict, told_line, told_header, told_reception}
 use Rattle.kusikhut.specs.Calls.{header_of, call_header, call_receive}
 
@@ -43,8 +40,8 @@ kinds_worked = refl
 
 pub receptions_worked :
     map told_reception
-    (Reception.Accepted Kind.CWithB 32 33 21 18
-    ∷ map Reception.Refused
+    (Ok (reception Kind.CWithB 32 33 21 18)
+    ∷ map Err
     (Refusal.WrongCheck 2 ∷ Refusal.BadWord 5 ∷ Refusal.NoSync 25 ∷ Refusal.UnknownTail 32 ∷ Refusal.UsedUp 4 ∷ []))
     ≡ told 0 (2 ∷ 32 ∷ 33 ∷ 21 ∷ 18 ∷ 0 ∷ 0 ∷ [])
     ∷ told 3 (0 ∷ 0 ∷ 0 ∷ 0 ∷ 0 ∷ 2 ∷ 0 ∷ [])
@@ -56,12 +53,12 @@ pub receptions_worked :
 receptions_worked = refl
 
 pub rows_worked :
-    told_frame (Frame.Accepted 20 15) ∷ told_frame (Frame.Refused (Refusal.WrongCheck 2))
-    ∷ told_sync (Sync.Found 4 5) ∷ told_sync (Sync.Refused (Refusal.NoSync 25))
+    told_frame (Ok (sizes 20 15)) ∷ told_frame (Err (Refusal.WrongCheck 2))
+    ∷ told_sync (Ok (found 4 5)) ∷ told_sync (Err (Refusal.NoSync 25))
     ∷ told_maker (maker_of 0x0CAE) ∷ told_maker (maker_of 0x8CAE) ∷ told_maker (maker_of 0)
     ∷ told_maker (maker_of 0xFFFF)
-    ∷ told_verdict Verdict.Wanted ∷ told_verdict Verdict.Unwanted
-    ∷ told_line (Line.Channel 6 0 169481250) ∷ told_line Line.End
+    ∷ told_verdict (Ok true) ∷ told_verdict (Ok false)
+    ∷ told_line (Some (channel_line 6 0 169481250)) ∷ told_line None
     ∷ []
     ≡ told 0 (20 ∷ 15 ∷ 0 ∷ []) ∷ told 3 (0 ∷ 0 ∷ 2 ∷ [])
     ∷ told 0 (4 ∷ 5 ∷ []) ∷ told 7 (0 ∷ 25 ∷ [])

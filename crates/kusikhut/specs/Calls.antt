@@ -22,19 +22,19 @@ use Rattle.address.specs.Keys.{key_at}
 use Rattle.sessions.specs.StoreCalls.{emptying, adding_by, hearing_in, issuing, restoring, setting_allowance, writing_store}
 use Rattle.codewords.specs.Corrections.{correcting_of, checking_of}
 use Rattle.proposals.specs.Proposals.{proposing_of}
-use Rattle.kusikhut.specs.Told.{Told, tells, told_decoded, told_written, told_frame, told_reception, told_value}
+use Rattle.kusikhut.specs.Told.{Told, tells, told_decoded, told_number, told_frame, told_reception}
 
 abbrev pub call_decode : Code → List ℕ → ℕ → ℕ → List ℕ → Outcome (Told ℕ)
 call_decode code s k n d = tells told_decoded (decoded (code_of code) s k n d)
 
 abbrev pub call_encode : Code → List ℕ → List ℕ → Outcome (Told ℕ)
-call_encode code s d = tells told_written (encoded (code_of code) s d)
+call_encode code s d = tells told_number (encoded (code_of code) s d)
 
 abbrev pub call_read : Format → List ℕ → List ℕ → Outcome (Told ℕ)
 call_read f s d = tells told_frame (reading_of f s d)
 
 abbrev pub call_write : Format → List ℕ → List ℕ → Outcome (Told ℕ)
-call_write f s d = tells told_written (writing_of f s d)
+call_write f s d = tells told_number (writing_of f s d)
 
 abbrev pub call_change : Format → List ℕ → ℕ → ℕ → Outcome (Told ℕ)
 call_change f d k b = tells told_frame (changing_of f d k b)
@@ -46,7 +46,7 @@ abbrev pub call_manchester : List ℕ → ℕ → List ℕ → Outcome (Told ℕ
 call_manchester s k d = tells told_reception (manchester_of s k d)
 
 abbrev pub call_send : Kind → List ℕ → List ℕ → Outcome (Told ℕ)
-call_send k s d = tells told_written (sending_of k s d)
+call_send k s d = tells told_number (sending_of k s d)
 
 abbrev pub header_of : HeaderKind → ℕ → ℕ → ℕ → ℕ → List ℕ → List ℕ → Header
 header_of k cc acc m2 sn a2 crc =
@@ -63,35 +63,35 @@ header_of k cc acc m2 sn a2 crc =
     }
 
 abbrev pub call_header : Header → List ℕ → Outcome (Told ℕ)
-call_header h d = tells told_written (header_writing_of h d)
+call_header h d = tells told_number (header_writing_of h d)
 
 abbrev pub call_empty : List ℕ → Outcome (Told ℕ)
-call_empty s = tells told_written (emptying s)
+call_empty s = tells told_number (emptying s)
 
 abbrev pub call_add : List ℕ → List ℕ → ℕ → ℕ → Outcome (Told ℕ)
-call_add s meter k j = tells told_written (adding_by (key_at meter 0) k j s)
+call_add s meter k j = tells told_number (adding_by (key_at meter 0) k j s)
 
 abbrev pub call_hear : List ℕ → List ℕ → ℕ → Outcome (Told ℕ)
-call_hear s meter n = tells told_written (hearing_in (key_at meter 0) n s)
+call_hear s meter n = tells told_number (hearing_in (key_at meter 0) n s)
 
 abbrev pub call_issue : List ℕ → List ℕ → Outcome (Told ℕ)
-call_issue s meter = tells told_value (issuing (key_at meter 0) s)
+call_issue s meter = tells told_number (issuing (key_at meter 0) s)
 
 abbrev pub call_restore : List ℕ → List ℕ → Outcome (Told ℕ)
-call_restore s file = tells told_written (restoring file s)
+call_restore s file = tells told_number (restoring file s)
 
 abbrev pub call_set_allowance : List ℕ → ℕ → Outcome (Told ℕ)
-call_set_allowance s n = tells told_written (setting_allowance n s)
+call_set_allowance s n = tells told_number (setting_allowance n s)
 
 abbrev pub call_write_store : List ℕ → List ℕ → Outcome (Told ℕ)
-call_write_store s d = tells told_written (writing_store s d)
+call_write_store s d = tells told_number (writing_store s d)
 
 abbrev pub call_correct : Format → List ℕ → List ℕ → Outcome (Told ℕ)
-call_correct f s d = tells told_written (correcting_of f s d)
+call_correct f s d = tells told_number (correcting_of f s d)
 
 abbrev pub call_check_bytes : List ℕ → List ℕ → Outcome (Told ℕ)
-call_check_bytes w d = tells told_written (checking_of w d)
+call_check_bytes w d = tells told_number (checking_of w d)
 
 -- k is how many wrong bytes are mended
 abbrev pub call_propose : ℕ → Format → List ℕ → List ℕ → Outcome (Told ℕ)
-call_propose k f s d = tells told_written (proposing_of k f s d)
+call_propose k f s d = tells told_number (proposing_of k f s d)

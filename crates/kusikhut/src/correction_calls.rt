@@ -5,39 +5,32 @@ ghost use Rattle.frame.specs.declared.Format.{Format};
 ghost use Rattle.kusikhut.specs.Told.{shown, told_announced};
 ghost use Rattle.kusikhut.specs.Calls.{call_correct, call_check_bytes};
 
-use crate::answers_calls::tell_written;
-use codewords::Announced;
+use crate::telling::tell;
 use frame::Format;
-
-fn write(f: Format, s: &[u8], d: &mut [u8], v: &mut [u64; 1]) -> u8
-    ensures { shown result v.new d.new ≡ call_correct f s.now d.old }
-{
-    tell_written(correction::write(f, s, d), v)
-}
 
 pub fn kusikhut_correction_write_a(s: &[u8], d: &mut [u8], v: &mut [u64; 1]) -> u8
     ensures { shown result v.new d.new ≡ call_correct Format.A s.now d.old }
 {
-    write(Format::A, s, d, v)
+    tell(correction::write(Format::A, s, d), v)
 }
 
 pub fn kusikhut_correction_write_b(s: &[u8], d: &mut [u8], v: &mut [u64; 1]) -> u8
     ensures { shown result v.new d.new ≡ call_correct Format.B s.now d.old }
 {
-    write(Format::B, s, d, v)
+    tell(correction::write(Format::B, s, d), v)
 }
 
 pub fn kusikhut_correction_check_bytes(s: &[u8], d: &mut [u8], v: &mut [u64; 1]) -> u8
     ensures { shown result v.new d.new ≡ call_check_bytes s.now d.old }
 {
-    tell_written(correction::check_bytes(s, d), v)
+    tell(correction::check_bytes(s, d), v)
 }
 
 pub fn kusikhut_correction_header(s: &[u8]) -> u8
     ensures { result ≡ told_announced (announced_of s.now) }
 {
     match correction::announced(s) {
-        Announced::ReedSolomon => 0,
-        Announced::Refused(why) => answers::number(why),
+        Ok(()) => 0,
+        Err(why) => why.number(),
     }
 }

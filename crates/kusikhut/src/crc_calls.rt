@@ -2,10 +2,9 @@
 ghost use Rattle.std.specs.Prelude.{◌≡◌};
 ghost use Rattle.crc.specs.Check.{check_of};
 ghost use Rattle.crc.specs.CheckUpdate.{updating};
-ghost use Rattle.kusikhut.specs.Told.{told, told_updated};
+ghost use Rattle.kusikhut.specs.Told.{told, told_number};
 
-use crate::answers_calls::{accept, refuse};
-use crc::Updated;
+use crate::telling::tell;
 
 pub fn kusikhut_check(s: &[u8]) -> u16
     ensures { result ≡ check_of s.now }
@@ -14,10 +13,7 @@ pub fn kusikhut_check(s: &[u8]) -> u16
 }
 
 pub fn kusikhut_update(check: u16, old: u8, new: u8, k: usize, v: &mut [u64; 1]) -> u8
-    ensures { told result v.new ≡ told_updated (updating check old new k) }
+    ensures { told result v.new ≡ told_number (updating check old new k) }
 {
-    match crc::update(check, old, new, k) {
-        Updated::Accepted(check) => accept(check as u64, v),
-        Updated::Refused(why) => refuse(why, v),
-    }
+    tell(crc::update(check, old, new, k), v)
 }

@@ -6,75 +6,47 @@ ghost use Rattle.header.specs.declared.layout.HeaderKind.TheVariants.{Plain, Sec
 ghost use Rattle.kusikhut.specs.Told.{told, shown, told_header};
 ghost use Rattle.kusikhut.specs.Calls.{header_of, call_header};
 
-use crate::answers_calls::tell_written;
+use crate::telling::{Row, tell};
 use address::{Address, Name};
-use header::{Access, Header, HeaderKind, HeaderReading, PayloadCheck, Session};
+use header::{Header, HeaderKind, PayloadCheck, Session};
 
 pub fn kusikhut_access(cc: u8) -> u8
     ensures { result ≡ access_row (access_of cc) }
 {
-    match header::announced(cc) {
-        Access::NoAccess => 0,
-        Access::NoneForNow => 1,
-        Access::Limited => 2,
-        Access::Unlimited => 3,
-    }
+    header::announced(cc) as u8
 }
 
-fn fields(h: Header, n: usize) -> [u64; 14]
-    ensures { result ≡ n ∷ fields_of h }
-{
-    let kind = h.kind;
-    let receiver = h.receiver;
-    let a = receiver.a;
-    let session = h.session;
-    let check = session.check;
-    [
-        n as u64,
-        header::ci_of(kind) as u64,
-        h.cc as u64,
-        h.acc as u64,
-        receiver.m as u64,
-        a.0 as u64,
-        a.1 as u64,
-        a.2 as u64,
-        a.3 as u64,
-        a.4 as u64,
-        a.5 as u64,
-        session.sn as u64,
-        check.0 as u64,
-        check.1 as u64,
-    ]
+// The header's length and its fields.
+impl Row<14> for (Header, usize) {
+    ghost shows = { λ read. read.1 ∷ fields_of read.0 };
+
+    fn row(self) -> [u64; 14] {
+        let (h, n) = self;
+        let a = h.receiver.a;
+        let check = h.session.check;
+        [
+            n as u64,
+            u64::from(h.kind.ci()),
+            u64::from(h.cc),
+            u64::from(h.acc),
+            u64::from(h.receiver.m),
+            u64::from(a.0),
+            u64::from(a.1),
+            u64::from(a.2),
+            u64::from(a.3),
+            u64::from(a.4),
+            u64::from(a.5),
+            u64::from(h.session.sn),
+            u64::from(check.0),
+            u64::from(check.1),
+        ]
+    }
 }
 
 pub fn kusikhut_header_read(s: &[u8], v: &mut [u64; 14]) -> u8
     ensures { told result v.new ≡ told_header (header_reading_of s.now) }
 {
-    match header::read(s) {
-        HeaderReading::Accepted(h, n) => {
-            *v = fields(h, n);
-            0
-        }
-        HeaderReading::Refused(why) => {
-            *v = [
-                answers::value(why) as u64,
-                0,
-                0,
-                0,
-                0,
-                0,
-                0,
-                0,
-                0,
-                0,
-                0,
-                0,
-                0,
-                0,
-            ];
-            answers::number(why)
-        }
-    }
+    tell(header::read(s), v)
 }
 
 fn write(
@@ -102,7 +74,7 @@ fn write(
         receiver,
         session,
     };
-    tell_written(header::write(h, d), v)
+    tell(header::write(h, d), v)
 }
 
 pub fn kusikhut_header_write_8c(cc: u8, acc: u8, d: &mut [u8], v: &mut [u64; 1]) -> u8

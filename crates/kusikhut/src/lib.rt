@@ -6,7 +6,7 @@
 // `_calls`, since no module may have a crate's own name.
 #![tactic(auto)]
 
-mod answers_calls; // answers_calls.rt: refusals and rows of one result, and what every writer tells
+mod telling; // telling.rt: an answer told as its number and a row of results
 mod crc_calls; // crc_calls.rt: the block check and its update
 mod line_calls; // line_calls.rt: the line codes alone
 mod frame_calls; // frame_calls.rt: frames as bytes

@@ -1,21 +1,21 @@
 // The sync search.
-ghost use Rattle.std.specs.Prelude.{◌≡◌};
+ghost use Rattle.std.specs.Prelude.{◌≡◌, [], ◌∷◌};
 ghost use Rattle.sync.specs.SyncSearch.{search_of};
 ghost use Rattle.kusikhut.specs.Told.{told, told_sync};
 
-use sync::Sync;
+use crate::telling::{Row, tell_at};
+use sync::Found;
+
+impl Row<2> for Found {
+    ghost shows = { λ found. found.place ∷ found.tried ∷ [] };
+
+    fn row(self) -> [u64; 2] {
+        [self.place as u64, self.tried as u64]
+    }
+}
 
 pub fn kusikhut_search(s: &[u8], k: usize, allowance: usize, v: &mut [u64; 2]) -> u8
     ensures { told result v.new ≡ told_sync (search_of s.now k allowance) }
 {
-    match sync::search(s, k, allowance) {
-        Sync::Found { place, tried } => {
-            *v = [place as u64, tried as u64];
-            0
-        }
-        Sync::Refused(why) => {
-            *v = [0, answers::value(why) as u64];
-            answers::number(why)
-        }
-    }
+    tell_at(sync::search(s, k, allowance), 1, v)
 }

@@ -3,19 +3,19 @@
 ghost use Rattle.std.specs.Prelude.{◌≡◌};
 ghost use Rattle.frame.specs.declared.Format.{Format};
 ghost use Rattle.proposals.specs.Proposals.{proposal_of};
-ghost use Rattle.kusikhut.specs.Told.{told, shown, told_proposal};
+ghost use Rattle.kusikhut.specs.Told.{told, shown, told_number};
 ghost use Rattle.kusikhut.specs.Calls.{call_propose};
 
 #[unsafe(no_mangle)]
 pub extern "C" fn kusikhut_mending_judge_a(p: &[u8], s: &[u8], v: &mut [u64; 1]) -> u8
-    ensures { told result v.new ≡ told_proposal (proposal_of Format.A p.now s.now) }
+    ensures { told result v.new ≡ told_number (proposal_of Format.A p.now s.now) }
 {
     kusikhut::kusikhut_mending_judge_a(p, s, v)
 }
 
 #[unsafe(no_mangle)]
 pub extern "C" fn kusikhut_mending_judge_b(p: &[u8], s: &[u8], v: &mut [u64; 1]) -> u8
-    ensures { told result v.new ≡ told_proposal (proposal_of Format.B p.now s.now) }
+    ensures { told result v.new ≡ told_number (proposal_of Format.B p.now s.now) }
 {
     kusikhut::kusikhut_mending_judge_b(p, s, v)
 }

@@ -2,7 +2,7 @@
 ghost use Rattle.std.specs.Prelude.{◌≡◌};
 ghost use Rattle.address.specs.Keys.{key_at};
 ghost use Rattle.sessions.specs.StoreCalls.{looking_up, allowance_in};
-ghost use Rattle.kusikhut.specs.Told.{told, shown, told_value, told_lookup};
+ghost use Rattle.kusikhut.specs.Told.{told, shown, told_number, told_lookup};
 ghost use Rattle.kusikhut.specs.Calls.{call_empty, call_add, call_hear, call_issue, call_restore, call_set_allowance, call_write_store};
 
 #[unsafe(no_mangle)]
@@ -68,7 +68,7 @@ pub extern "C" fn kusikhut_store_look_up(s: &[u8], meter: &[u8; 8], v: &mut [u64
 
 #[unsafe(no_mangle)]
 pub extern "C" fn kusikhut_store_allowance(s: &[u8], v: &mut [u64; 1]) -> u8
-    ensures { told result v.new ≡ told_value (allowance_in s.now) }
+    ensures { told result v.new ≡ told_number (allowance_in s.now) }
 {
     kusikhut::kusikhut_store_allowance(s, v)
 }

@@ -5,7 +5,6 @@
 --     decoded_bad          6, with the place of the first word that is none
 --     decoded_no_room      4
 --     decoded-accepted     0, with the bytes
---     decoded_in_range     where buffer, start and room are right, only 1 and 6 are left to judge
 --     Acceptable           all that acceptance asks
 --     decoded_accepts      accepted exactly in the case of decoded-accepted: the other direction
 --     encoded_no_room, encoded-accepted
@@ -16,14 +15,15 @@ use mathlib.Core.Path.{◌≡◌, refl, ◌∙◌}
 use mathlib.Core.Bool.{Bool, true, false, cond}
 use mathlib.Core.List.{List, ◌++◌}
 use Prim.Native.Nat.{ℕ, ◌+◌, ◌<◌, ◌≤◌}
+use native.Mathlib.Nat.{le_antisymm}
 use native.Mathlib.Omega.{arith}
 use borrow.Author.Tests.{lt-ltb, le-ltb, ltb-false}
 use lib.Dec.{ltb}
 use lib.ListN.{length, drop}
+use Rattle.std.specs.Prelude.{Result, Ok, Err, ⊤}
 use Rattle.answers.specs.Outcome.{Outcome, leaving}
 use Rattle.answers.specs.declared.Refusal.{Refusal}
 use Rattle.answers.specs.declared.Refusal.TheVariants.{Short, NoRoom, BadWord, OutOfRange}
-use Rattle.answers.specs.declared.Written.TheVariants as written
 use Rattle.chips.proofs.RangeLaws.{InBuffer, in_range_inside, in_range_true}
 use Rattle.chips.specs.Chips.{word_at, chip_count, room_limit, in_range}
 use Rattle.ground.proofs.CaseLaws.{zero_not_one}
@@ -32,10 +32,6 @@ use Rattle.line.specs.Codes.{LineCode, word_value, words_in, chips_in}
 use Rattle.line.specs.Decoding.{value_at, good_run, decoding, decoded}
 use Rattle.line.specs.Encoding.{encoding, encoded_size, encoded}
 use Rattle.line.specs.OneWord.{word_for, word_read}
-use Rattle.line.specs.declared.decoding.Decoded.{Decoded}
-use Rattle.line.specs.declared.decoding.Decoded.TheVariants.{Accepted, Refused}
-use Rattle.line.specs.declared.words.Word.{Word}
-use Rattle.line.specs.declared.words.Word.TheVariants as word
 
 pub record Acceptable (κ : LineCode) (s : List ℕ) (start n : ℕ) (d : List ℕ) : Type 0 where
   pub small : length s ≤ room_limit
@@ -44,47 +40,35 @@ pub record Acceptable (κ : LineCode) (s : List ℕ) (start n : ℕ) (d : List �
   pub room : n ≤ length d
 
 -- a refusal is no acceptance
-refuted : {A : Type 0} {r : Refusal} → Refused r ≡ Accepted → A
+refuted : {A : Type 0} {r : Refusal} → ◌≡◌ {A = Result ⊤ Refusal} (Err r) (Ok tt) → A
 refuted h = absurd (zero_not_one (cc))
 
-abbrev accepted : List ℕ → Outcome Decoded
-accepted m = record { answer = Accepted; memory = m }
+abbrev accepted : List ℕ → Outcome (Result ⊤ Refusal)
+accepted m = leaving (Ok tt) m
 
 -- accepted, so no test refused
 unrefused : (a b c e : Bool) (k : ℕ) (d m : List ℕ)
     → (cond a
-    (cond b (leaving (Refused Short) d)
-    (cond c (leaving (Refused (BadWord k)) d) (cond e (leaving (Refused NoRoom) d) (accepted m))))
-    (leaving (Refused OutOfRange) d)).answer ≡ Accepted → ((a ≡ true) × (b ≡ false)) × ((c ≡ false) × (e ≡ false))
+    (cond b (leaving (Err Short) d)
+    (cond c (leaving (Err (BadWord k)) d) (cond e (leaving (Err NoRoom) d) (accepted m))))
+    (leaving (Err OutOfRange) d)).answer ≡ Ok tt → ((a ≡ true) × (b ≡ false)) × ((c ≡ false) × (e ≡ false))
 unrefused false b c e k d m h = refuted h
 unrefused true true c e k d m h = refuted h
 unrefused true false true e k d m h = refuted h
 unrefused true false false true k d m h = refuted h
 unrefused true false false false k d m h = ((refl, refl), (refl, refl))
 
-le_antisymm : {a b : ℕ} → a ≤ b → b ≤ a → a ≡ b
-le_antisymm le ge = omega arith
-
 module _ (κ : LineCode) (s : List ℕ) (start n : ℕ) (d : List ℕ) where
-  pub decoded_out : in_range s start ≡ false → decoded κ s start n d ≡ leaving (Refused OutOfRange) d
+  pub decoded_out : in_range s start ≡ false → decoded κ s start n d ≡ leaving (Err OutOfRange) d
   unfolding decoded
   decoded_out h = rw h
 
   pub decoded_short :
-      InBuffer s start → chip_count s < start + chips_in κ n → decoded κ s start n d ≡ leaving (Refused Short) d
+      InBuffer s start → chip_count s < start + chips_in κ n → decoded κ s start n d ≡ leaving (Err Short) d
   unfolding decoded
   decoded_short b h = rw (in_range_inside b, lt-ltb (chip_count s) (start + chips_in κ n) h)
 
-  pub decoded_in_range : length s ≤ room_limit → start ≤ chip_count s → n ≤ length d
-      → decoded κ s start n d ≡ cond (ltb (chip_count s) (start + chips_in κ n)) (leaving (Refused Short) d)
-      (cond (ltb (good_run (value_at κ s start) (words_in κ n)) (words_in κ n))
-      (leaving (Refused (BadWord (good_run (value_at κ s start) (words_in κ n)))) d)
-      (record { answer = Accepted; memory = decoding κ s start n ++ drop n d }))
-  unfolding decoded
-  decoded_in_range small inside lent =
-      rw (in_range_inside (record { small = small; inside = inside }), le-ltb (length d) n lent)
-
-  pub decoded_accepts : (decoded κ s start n d).answer ≡ Accepted → Acceptable κ s start n d
+  pub decoded_accepts : (decoded κ s start n d).answer ≡ Ok tt → Acceptable κ s start n d
   unfolding decoded
   decoded_accepts h =
       let run : ℕ = good_run (value_at κ s start) (words_in κ n) in
@@ -101,57 +85,54 @@ module _ (κ : LineCode) (s : List ℕ) (start n : ℕ) (d : List ℕ) where
     -- neither 10 nor 1
     decoded_fits : decoded κ s start n d
         ≡ cond (ltb (good_run (value_at κ s start) (words_in κ n)) (words_in κ n))
-        (leaving (Refused (BadWord (good_run (value_at κ s start) (words_in κ n)))) d)
-        (cond (ltb (length d) n) (leaving (Refused NoRoom) d) (accepted (decoding κ s start n ++ drop n d)))
+        (leaving (Err (BadWord (good_run (value_at κ s start) (words_in κ n)))) d)
+        (cond (ltb (length d) n) (leaving (Err NoRoom) d) (accepted (decoding κ s start n ++ drop n d)))
     unfolding decoded
     decoded_fits =
         let b : InBuffer s start = record { small = small; inside = omega arith } in
         rw (in_range_inside b, le-ltb (chip_count s) (start + chips_in κ n) fits)
 
     pub decoded_bad : {k : ℕ} → k ≡ good_run (value_at κ s start) (words_in κ n) → k < words_in κ n
-        → decoded κ s start n d ≡ leaving (Refused (BadWord k)) d
+        → decoded κ s start n d ≡ leaving (Err (BadWord k)) d
     decoded_bad {k} run h = decoded_fits ∙ rw (← run, lt-ltb k (words_in κ n) h)
 
     module _ (run : good_run (value_at κ s start) (words_in κ n) ≡ words_in κ n) where
       -- only the room is left to judge
       decoded_words : decoded κ s start n d
-          ≡ cond (ltb (length d) n) (leaving (Refused NoRoom) d) (accepted (decoding κ s start n ++ drop n d))
+          ≡ cond (ltb (length d) n) (leaving (Err NoRoom) d) (accepted (decoding κ s start n ++ drop n d))
       decoded_words = decoded_fits ∙ rw (run, le-ltb (words_in κ n) (words_in κ n) (omega arith))
 
-      pub decoded_no_room : length d < n → decoded κ s start n d ≡ leaving (Refused NoRoom) d
+      pub decoded_no_room : length d < n → decoded κ s start n d ≡ leaving (Err NoRoom) d
       decoded_no_room h = decoded_words ∙ rw (lt-ltb (length d) n h)
 
       pub decoded-accepted : n ≤ length d
-          → decoded κ s start n d ≡ record { answer = Accepted; memory = decoding κ s start n ++ drop n d }
+          → decoded κ s start n d ≡ leaving (Ok tt) (decoding κ s start n ++ drop n d)
       decoded-accepted h = decoded_words ∙ rw (le-ltb (length d) n h)
 
 module _ (κ : LineCode) (s d : List ℕ) where
   pub encoded_no_room : length d < encoded_size κ (length s)
-      → encoded κ s d ≡ record { answer = written.Refused NoRoom; memory = d }
+      → encoded κ s d ≡ leaving (Err NoRoom) d
   unfolding encoded
   encoded_no_room h = rw (lt-ltb (length d) (encoded_size κ (length s)) h)
 
   pub encoded-accepted : encoded_size κ (length s) ≤ length d
-      → encoded κ s d ≡ record {
-        answer = written.Accepted (encoded_size κ (length s));
-        memory = encoding κ s ++ drop (encoded_size κ (length s)) d;
-      }
+      → encoded κ s d ≡ leaving (Ok (encoded_size κ (length s))) (encoding κ s ++ drop (encoded_size κ (length s)) d)
   unfolding encoded
   encoded-accepted h = rw (le-ltb (length d) (encoded_size κ (length s)) h)
 
 -- the tests that stand before an accepted word did not refuse it
-unrefused_word : (a b : Bool) (w : Word) {x : ℕ}
-    → cond a (cond b (word.Refused Short) w) (word.Refused OutOfRange) ≡ word.Accepted x → (a ≡ true) × (b ≡ false)
+unrefused_word : (a b : Bool) (w : Result ℕ Refusal) {x : ℕ}
+    → cond a (cond b (Err Short) w) (Err OutOfRange) ≡ Ok x → (a ≡ true) × (b ≡ false)
 unrefused_word false b w e = (cc, cc)
 unrefused_word true true w e = (refl, cc)
 unrefused_word true false w e = (refl, refl)
 
 module _ (κ : LineCode) (s : List ℕ) (at : ℕ) where
-  pub word_read_out : in_range s at ≡ false → word_read κ s at ≡ word.Refused OutOfRange
+  pub word_read_out : in_range s at ≡ false → word_read κ s at ≡ Err OutOfRange
   unfolding word_read
   word_read_out h = rw h
 
-  pub word_read_short : InBuffer s at → chip_count s < at + κ.chips → word_read κ s at ≡ word.Refused Short
+  pub word_read_short : InBuffer s at → chip_count s < at + κ.chips → word_read κ s at ≡ Err Short
   unfolding word_read
   word_read_short b lt = rw (in_range_inside b, lt-ltb (chip_count s) (at + κ.chips) lt)
 
@@ -160,7 +141,7 @@ module _ (κ : LineCode) (s : List ℕ) (at : ℕ) where
   unfolding word_read
   word_read_fits b le = rw (in_range_inside b, le-ltb (chip_count s) (at + κ.chips) le)
 
-  pub word_read_within : {x : ℕ} → word_read κ s at ≡ word.Accepted x
+  pub word_read_within : {x : ℕ} → word_read κ s at ≡ Ok x
       → (length s ≤ room_limit) × (at + κ.chips ≤ chip_count s)
   unfolding word_read
   word_read_within e =

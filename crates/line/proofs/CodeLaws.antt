@@ -8,7 +8,7 @@
 --     sizes-le            bounds on them
 --     ones-code_words      every three-of-six code word has three ones, by the same test as that they are distinct
 --     word_of_injective    two numbers of a lawful code have different words
---     words_in_le, unit_of_ge, chips_in_ge, chips_in-le    bounds on the words and chips of n bytes
+--     words_in_le, unit_of_ge, chips_in_ge    bounds on the words and chips of n bytes
 --     word_value_is, word_value_accepts    a word stands for x exactly when it is the code word of x
 use mathlib.Core.Path.{◌≡◌, refl, ap, sym, ◌∙◌}
 use mathlib.Core.Bool.{Bool, true, false, cond, ◌&&◌}
@@ -20,26 +20,25 @@ use borrow.Author.Tests.{eqb-true}
 use lib.Dec.{T, eqb, ltb, eqb→eq, ltb→lt}
 use lib.Ieee.Fits.{and_l, and_r}
 use lib.ListN.{get_or}
-use Rattle.ground.proofs.CaseLaws.{zero_not_one}
+use Rattle.std.proofs.lemmas.Option.{none-some}
+use Rattle.std.specs.Prelude.{Option, Some, None}
 use Rattle.ground.proofs.TableLaws.{all_below, all_below_at}
 use Rattle.line.specs.Codes.{LineCode, code_of, code_words, number_for, word_value, words_in, chips_in}
 use Rattle.line.specs.Inner.{unit_of}
 use Rattle.line.specs.declared.codes.Code.{Code}
 use Rattle.line.specs.declared.codes.Code.TheVariants.{Nrz, ThreeOfSix, Manchester}
-use Rattle.line.specs.declared.codes.Value.{Value}
-use Rattle.line.specs.declared.codes.Value.TheVariants.{Is, NoWord}
 
 -- one number more to search
-number_for-suc : (f : ℕ → ℕ) (y n x : ℕ) (t : Bool) → eqb (f n) y ≡ t → cond t (Is n) (number_for f y n) ≡ Is x
-    → (number_for f y n ≡ Is x → (x < n) × (f x ≡ y)) → (x < suc n) × (f x ≡ y)
+number_for-suc : (f : ℕ → ℕ) (y n x : ℕ) (t : Bool) → eqb (f n) y ≡ t → cond t (Some n) (number_for f y n) ≡ Some x
+    → (number_for f y n ≡ Some x → (x < n) × (f x ≡ y)) → (x < suc n) × (f x ≡ y)
 number_for-suc f y n x true e found before =
     let same : n ≡ x = cc in
     (omega arith, rw (← same) (eqb-true (f n) y e))
 number_for-suc f y n x false e found before = (omega (arith, (before found).0), (before found).1)
 
-pub number_for_is : (f : ℕ → ℕ) (y n x : ℕ) → number_for f y n ≡ Is x → (x < n) × (f x ≡ y)
+pub number_for_is : (f : ℕ → ℕ) (y n x : ℕ) → number_for f y n ≡ Some x → (x < n) × (f x ≡ y)
 unfolding number_for
-number_for_is f y zero x h = absurd (zero_not_one (cc))
+number_for_is f y zero x h = absurd (none-some x h)
 number_for_is f y (suc n) x h = number_for-suc f y n x (eqb (f n) y) refl h (number_for_is f y n x)
 
 pub record Lawful (κ : LineCode) : Type 0 where
@@ -49,16 +48,16 @@ pub record Lawful (κ : LineCode) : Type 0 where
   pub chips-le : κ.chips ≤ 8
   pub unit_le : unit_of κ ≤ 16
   pub word_lt : (x : ℕ) → x < 2 ^ κ.bits → κ.word_of x < 2 ^ κ.chips
-  pub back : (x : ℕ) → x < 2 ^ κ.bits → word_value κ (κ.word_of x) ≡ Is x
+  pub back : (x : ℕ) → x < 2 ^ κ.bits → word_value κ (κ.word_of x) ≡ Some x
 
-is_number : Value → ℕ → Bool
-is_number (Is x) k = eqb x k
-is_number NoWord k = false
+is_number : Option ℕ → ℕ → Bool
+is_number (Some x) k = eqb x k
+is_number None k = false
 
-is_number_is : (v : Value) (k : ℕ) → T (is_number v k) → v ≡ Is k
+is_number_is : (v : Option ℕ) (k : ℕ) → T (is_number v k) → v ≡ Some k
 unfolding is_number
-is_number_is (Is x) k t = ap Is (eqb→eq x k t)
-is_number_is NoWord k t = absurd t
+is_number_is (Some x) k t = ap Some (eqb→eq x k t)
+is_number_is None k t = absurd t
 
 -- the test of one number: its word fits the chips and stands for nothing else, and has the further property p
 right_word : LineCode → (ℕ → Bool) → ℕ → Bool
@@ -67,7 +66,7 @@ right_word κ p x = ltb (κ.word_of x) (2 ^ κ.chips) && (is_number (word_value 
 -- what the test shows
 record RightWord (κ : LineCode) (p : ℕ → Bool) (x : ℕ) : Type 0 where
   fits : κ.word_of x < 2 ^ κ.chips
-  told : word_value κ (κ.word_of x) ≡ Is x
+  told : word_value κ (κ.word_of x) ≡ Some x
   has : T (p (κ.word_of x))
 
 right_word_is : (κ : LineCode) (p : ℕ → Bool) (x : ℕ) → T (right_word κ p x) → RightWord κ p x
@@ -143,25 +142,22 @@ ones-code_words x h = eqb→eq (ones 6 (get_or code_words x 0)) 3 (tested_at Thr
 pub words_in_le : (κ : LineCode) (n : ℕ) → words_in κ n ≤ n * 8
 words_in_le κ n = mul-le-mul_left n (div-le_self 8 κ.bits)
 
-pub word_value_is : (κ : LineCode) (y x : ℕ) → word_value κ y ≡ Is x → (x < 2 ^ κ.bits) × (κ.word_of x ≡ y)
+pub word_value_is : (κ : LineCode) (y x : ℕ) → word_value κ y ≡ Some x → (x < 2 ^ κ.bits) × (κ.word_of x ≡ y)
 word_value_is κ y x h = number_for_is κ.word_of y (2 ^ κ.bits) x h
 
 module _ {κ : LineCode} (law : Lawful κ) where
-  -- n bytes have at least 8 and at most 16 chips each
+  -- n bytes have at least 8 chips each
   pub unit_of_ge : 8 ≤ unit_of κ
   unit_of_ge = rw law.whole at (mul-le-mul_left (8 / κ.bits) law.bits-le)
 
   pub chips_in_ge : (n : ℕ) → n * 8 ≤ chips_in κ n
   chips_in_ge n = rw mul_assoc (mul-le-mul_left n unit_of_ge)
 
-  pub chips_in-le : (n : ℕ) → chips_in κ n ≤ n * 16
-  chips_in-le n = rw mul_assoc (mul-le-mul_left n law.unit_le)
-
   pub word_of_injective : (x z : ℕ) → x < 2 ^ κ.bits → z < 2 ^ κ.bits → κ.word_of x ≡ κ.word_of z → x ≡ z
   word_of_injective x z hx hz e =
-      let bx : word_value κ (κ.word_of x) ≡ Is x = law.back x hx in
-      let bz : word_value κ (κ.word_of z) ≡ Is z = law.back z hz in
+      let bx : word_value κ (κ.word_of x) ≡ Some x = law.back x hx in
+      let bz : word_value κ (κ.word_of z) ≡ Some z = law.back z hz in
       cc (ap (word_value κ) e)
 
-  pub word_value_accepts : (y x : ℕ) → (word_value κ y ≡ Is x) ↔ ((x < 2 ^ κ.bits) × (κ.word_of x ≡ y))
+  pub word_value_accepts : (y x : ℕ) → (word_value κ y ≡ Some x) ↔ ((x < 2 ^ κ.bits) × (κ.word_of x ≡ y))
   word_value_accepts y x = (word_value_is κ y x, λ h. ap (word_value κ) (sym h.1) ∙ law.back x h.0)

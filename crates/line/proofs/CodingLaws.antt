@@ -1,7 +1,7 @@
 -- The chips of one byte put together word by word: what holds after k words (the invariant of
 -- `line::encoding::coded_byte`).
 --     Coding              x is the byte at i; c is the number that the chips of its first k words make
---     coding_start, coding_lt, coding_inside, coding_step, coding_room, coding_end
+--     coding_start, coding_lt, coding_step, coding_room, coding_end
 use mathlib.Core.Path.{◌≡◌, sym, ◌∙◌}
 use mathlib.Core.List.{List}
 use Prim.Native.Nat.{ℕ, ◌+◌, ◌*◌, ◌-◌, ◌/◌, ◌%◌, ◌^◌, ◌<◌, ◌≤◌}
@@ -12,7 +12,6 @@ use lib.Pow.{pow_mono}
 use Rattle.chips.proofs.GatherLaws.{gather-lt}
 use Rattle.chips.specs.Chips.{gather, word_at}
 use Rattle.line.proofs.CodeLaws.{Sizes}
-use Rattle.line.proofs.DigitLaws.{mul-add-le}
 use Rattle.line.proofs.EncodingLaws.{word_at_group, gather-encoded_chip-suc, gather-sent_chip}
 use Rattle.line.specs.Codes.{LineCode}
 use Rattle.line.specs.Encoding.{encoded_chip}
@@ -36,11 +35,6 @@ module _ {κ : LineCode} {s : List ℕ} {i b w m x c k : ℕ} (inv : Coding κ s
       let fits : k * κ.chips ≤ 16 = omega (arith, inv.sizes.law.unit_le) in
       let chips : 2 ^ (k * κ.chips) ≤ 2 ^ 16 = pow_mono {i = k * κ.chips} {j = 16} fits in
       rw inv.coded (omega (arith, gather-lt (encoded_chip κ s) (λ q. omega arith) (i * unit_of κ) (k * κ.chips)))
-
-  pub coding_inside : k < m → k * b + b ≤ 8
-  coding_inside h =
-      let eight : m * b ≡ 8 = rw (inv.sizes.m-eq, inv.sizes.b-eq) inv.sizes.law.whole in
-      omega (arith, mul-add-le k m b h)
 
   -- the bits of word k
   coding_group : k < m → x / 2 ^ (8 - b - k * b) % 2 ^ b ≡ word_at s ((i * (8 / κ.bits) + k) * κ.bits) κ.bits

@@ -8,6 +8,7 @@ use mathlib.Core.List.{List}
 use Prim.Native.Nat.{ℕ, ◌+◌, ◌*◌, ◌^◌, ◌<◌}
 use native.Mathlib.Nat.{add-mul, add_assoc, zero-add}
 use lib.Pow.{pow_pos}
+use Rattle.std.specs.Prelude.{Option, Some, None}
 use Rattle.chips.proofs.GatherLaws.{gather-add}
 use Rattle.chips.proofs.PackingLaws.{gather_spread}
 use Rattle.chips.specs.Chips.{gather, word_at}
@@ -15,20 +16,18 @@ use Rattle.line.proofs.CodeLaws.{word_value_is}
 use Rattle.line.proofs.DigitLaws.{add_one-mul}
 use Rattle.line.specs.Codes.{LineCode, word_value}
 use Rattle.line.specs.Decoding.{value_at, number_in, decoded_chip}
-use Rattle.line.specs.declared.codes.Value.{Value}
-use Rattle.line.specs.declared.codes.Value.TheVariants.{Is, NoWord}
 
 module _ (κ : LineCode) (s : List ℕ) (at : ℕ) where
   pub number_in_lt : (k : ℕ) → number_in (value_at κ s at k) < 2 ^ κ.bits
   number_in_lt k = by (value_at κ s at k) refl where
-    by : (v : Value) → value_at κ s at k ≡ v → number_in v < 2 ^ κ.bits
-    by (Is x) e = (word_value_is κ (word_at s (at + k * κ.chips) κ.chips) x e).0
-    by NoWord e = pow_pos κ.bits
+    by : (v : Option ℕ) → value_at κ s at k ≡ v → number_in v < 2 ^ κ.bits
+    by (Some x) e = (word_value_is κ (word_at s (at + k * κ.chips) κ.chips) x e).0
+    by None e = pow_pos κ.bits
 
   pub gather-decoded_chip : (k : ℕ) → gather (decoded_chip κ s at) (k * κ.bits) κ.bits ≡ number_in (value_at κ s at k)
   gather-decoded_chip k = gather_spread (λ i. number_in (value_at κ s at i)) κ.bits k (number_in_lt k)
 
-  pub gather-decoded_chip-suc : (k v : ℕ) → value_at κ s at k ≡ Is v
+  pub gather-decoded_chip-suc : (k v : ℕ) → value_at κ s at k ≡ Some v
       → gather (decoded_chip κ s at) 0 (k * κ.bits) * 2 ^ κ.bits + v
       ≡ gather (decoded_chip κ s at) 0 ((k + 1) * κ.bits)
   gather-decoded_chip-suc k v e =

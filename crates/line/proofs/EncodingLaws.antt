@@ -1,5 +1,4 @@
 -- What the encoded chips are, word by word (specs/Encoding), over every lawful line code.
---     encoded_size_ge            the encoding is at least as long as what it encodes
 --     gather-encoded_chip        the chips of word k are the code word of the k-th group of bits
 --     word_at_group              group k of the byte at i, cut out of that byte
 --     gather-encoded_chip-suc    the number of the first k words of the byte at i, and word k behind it
@@ -16,14 +15,11 @@ use Rattle.chips.proofs.GatherLaws.{gather-add, gather-lt, gather_within, chip_a
 use Rattle.chips.proofs.PackingLaws.{gather_spread, gather_same, gather_none, up_to_within, up_to_behind, up_to_lt}
 use Rattle.chips.proofs.WindowLaws.{word_at_byte}
 use Rattle.chips.specs.Chips.{gather, chip_at, word_at}
-use Rattle.line.proofs.CodeLaws.{Lawful, chips_in_ge}
+use Rattle.line.proofs.CodeLaws.{Lawful}
 use Rattle.line.proofs.DigitLaws.{add_one-mul, mul-add-le}
 use Rattle.line.specs.Codes.{LineCode, chips_in}
-use Rattle.line.specs.Encoding.{encoded_chip, encoded_size}
+use Rattle.line.specs.Encoding.{encoded_chip}
 use Rattle.line.specs.Inner.{unit_of, sent_chip}
-
-pub encoded_size_ge : {κ : LineCode} → Lawful κ → (n : ℕ) → n ≤ encoded_size κ n
-encoded_size_ge law n = omega (arith, chips_in_ge law n)
 
 pub sent_chip-lt : (κ : LineCode) (s : List ℕ) (k : ℕ) → sent_chip κ s k < 2
 sent_chip-lt κ s = up_to_lt (chips_in κ (length s)) (encoded_chip κ s) (λ k. omega arith)
@@ -48,8 +44,7 @@ module _ {κ : LineCode} (law : Lawful κ) (s : List ℕ) where
       (ap (λ (n : ℕ). word_at s (8 * i) n / 2 ^ rest % 2 ^ κ.bits) (sym all)
       ∙ gather_within (chip_at s) (chip_at-lt s) (8 * i) (k * κ.bits) κ.bits rest)
 
-  pub gather-encoded_chip-suc : (i k : ℕ)
-      → gather (encoded_chip κ s) (i * unit_of κ) (k * κ.chips) * 2 ^ κ.chips
+  pub gather-encoded_chip-suc : (i k : ℕ) → gather (encoded_chip κ s) (i * unit_of κ) (k * κ.chips) * 2 ^ κ.chips
       + κ.word_of (word_at s ((i * (8 / κ.bits) + k) * κ.bits) κ.bits)
       ≡ gather (encoded_chip κ s) (i * unit_of κ) ((k + 1) * κ.chips)
   gather-encoded_chip-suc i k =

@@ -5,14 +5,16 @@
 --     filling_start, filling_fits, filling_step, filling_bad, filling_end, filling_length
 use mathlib.Core.Path.{◌≡◌, refl, ap, sym, ◌∙◌}
 use mathlib.Core.Bool.{Bool, true, false, cond}
-use mathlib.Core.List.{List, ◌++◌}
+use mathlib.Core.List.{List, [], ◌++◌}
 use Prim.Native.Nat.{ℕ, ◌+◌, ◌*◌, ◌-◌, ◌/◌, ◌<◌, ◌≤◌}
 use native.Mathlib.Nat.{zero-mul, mul_assoc}
 use native.Mathlib.Omega.{arith}
 use borrow.Author.Tests.{ltb-true, ltb-false}
 use lib.Dec.{ltb}
-use lib.ListN.{length, take, drop, set}
-use lib.Seq.{take_at}
+use lib.ListN.{length, drop, set}
+use lib.Seq.{drop-length}
+use Rattle.std.proofs.lemmas.List.{append-nil}
+use Rattle.std.specs.Prelude.{Ok, Err}
 use Rattle.chips.proofs.PackingLaws.{gather_same, spread_shift, length-tabulate, packed_whole}
 use Rattle.chips.specs.Chips.{gather}
 use Rattle.chips.specs.Packing.{tabulate}
@@ -25,16 +27,15 @@ use Rattle.line.proofs.DigitLaws.{add_one-mul, mul-add-le}
 use Rattle.line.proofs.GoodRunLaws.{good_run-le, good_run_shift, good_run_same, good_run_stays}
 use Rattle.line.specs.Codes.{LineCode, words_in, chips_in}
 use Rattle.line.specs.Decoding.{value_at, good_run, number_in, decoded_chip, decoding}
-use Rattle.line.specs.Inner.{unit_of, byte_read}
-use Rattle.line.specs.declared.decoding.Byte.TheVariants as byte
+use Rattle.line.specs.Inner.{unit_of, byte_read, AllWords}
 
 -- a run of g words out of m, and the byte x that they would make
-run_is : {g m x y : ℕ} (t : Bool) → g ≤ m → ltb g m ≡ t → cond t (byte.Bad g) (byte.Is y) ≡ byte.Is x
+run_is : {g m x y : ℕ} (t : Bool) → g ≤ m → ltb g m ≡ t → cond t (Err g) (Ok y) ≡ Ok x
     → (g ≡ m) × (x ≡ y)
 run_is true le e h = absurd (zero_not_one (cc))
 run_is {g} {m} false le e h = (omega (arith, ltb-false g m e), cc)
 
-run_bad : {g m k : ℕ} (y : ℕ) (t : Bool) → ltb g m ≡ t → cond t (byte.Bad g) (byte.Is y) ≡ byte.Bad k
+run_bad : {g m k : ℕ} (y : ℕ) (t : Bool) → ltb g m ≡ t → cond t (Err g) (Ok y) ≡ Err k
     → (g ≡ k) × (k < m)
 run_bad {g} {m} {k} y true e h =
     let same : g ≡ k = cc in
@@ -42,14 +43,14 @@ run_bad {g} {m} {k} y true e h =
 run_bad y false e h = absurd (zero_not_one (cc))
 
 module _ (κ : LineCode) (s : List ℕ) (at : ℕ) where
-  pub byte_read_is : {x : ℕ} → byte_read κ s at ≡ byte.Is x
+  pub byte_read_is : {x : ℕ} → byte_read κ s at ≡ Ok x
       → (good_run (value_at κ s at) (8 / κ.bits) ≡ 8 / κ.bits) × (x ≡ gather (decoded_chip κ s at) 0 8)
   unfolding byte_read
   byte_read_is h =
       let m : ℕ = 8 / κ.bits in
       run_is (ltb (good_run (value_at κ s at) m) m) (good_run-le (value_at κ s at) m) refl h
 
-  pub byte_read_bad : {k : ℕ} → byte_read κ s at ≡ byte.Bad k
+  pub byte_read_bad : {k : ℕ} → byte_read κ s at ≡ Err k
       → (good_run (value_at κ s at) (8 / κ.bits) ≡ k) × (k < 8 / κ.bits)
   unfolding byte_read
   byte_read_bad h =
@@ -106,7 +107,7 @@ module _ {κ : LineCode} {s : List ℕ} {start n m unit i : ℕ} {room was : Lis
       gather_same (decoded_chip κ s (start + i * unit)) (decoded_chip κ s start) 0 (8 * i) 8
       (λ k h. let here : 0 + k ≡ k = omega arith in rw here (decoded_chip_byte k))
 
-  pub filling_step : {x : ℕ} → i < n → i < length was → byte_read κ s (start + i * unit) ≡ byte.Is x
+  pub filling_step : {x : ℕ} → i < n → i < length was → byte_read κ s (start + i * unit) ≡ Ok x
       → Filling κ s start n m unit (i + 1) (set room i x) was
   filling_step h left e =
       let told = byte_read_is κ s (start + i * unit) e in
@@ -120,7 +121,7 @@ module _ {κ : LineCode} {s : List ℕ} {start n m unit i : ℕ} {room was : Lis
         filled = set_tabulated (byte_from κ s start) was inv.filled (told.1 ∙ byte_from_byte) left;
       }
 
-  pub filling_bad : {k : ℕ} → i < n → byte_read κ s (start + i * unit) ≡ byte.Bad k
+  pub filling_bad : {k : ℕ} → i < n → byte_read κ s (start + i * unit) ≡ Err k
       → (i * m + k ≡ good_run (value_at κ s start) (words_in κ n)) × (i * m + k < words_in κ n)
   filling_bad {k} h e =
       let told = byte_read_bad κ s (start + i * unit) e in
@@ -132,15 +133,14 @@ module _ {κ : LineCode} {s : List ℕ} {start n m unit i : ℕ} {room was : Lis
       let stays = good_run_stays (value_at κ s start) (i * m + k) (i * m + m) (n * m - (i * m + m)) run (omega arith) in
       (sym (rw rest at stays), rw (← all) (omega arith))
 
-  pub filling_end : n ≤ i
-      → (n * m ≡ good_run (value_at κ s start) (words_in κ n)) × (take n room ≡ decoding κ s start n)
+  pub filling_end : length was ≤ i → n ≡ length was → AllWords κ s start n × (room ≡ decoding κ s start n)
   unfolding decoding
-  filling_end h =
+  filling_end h size =
       let same : i ≡ n = omega (arith, inv.passed) in
       let run : good_run (value_at κ s start) (n * m) ≡ n * m = rw same at inv.run in
       let filled : room ≡ tabulate (byte_from κ s start) n ++ drop n was = rw same at inv.filled in
-      let taken = take_at (tabulate (byte_from κ s start) n) (drop n was) n (length-tabulate _ n) in
-      (rw inv.m-eq (sym (rw inv.m-eq at run)), rw filled (taken ∙ sym (packed_whole n (decoded_chip κ s start))))
+      let none : drop n was ≡ [] = rw size (drop-length was) in
+      (rw inv.m-eq at run, rw (filled, none, append-nil) (sym (packed_whole n (decoded_chip κ s start))))
 
   pub filling_length : n ≤ length was → length room ≡ length was
   filling_length h =

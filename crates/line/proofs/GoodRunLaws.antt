@@ -12,9 +12,8 @@ use native.Mathlib.Nat.{add-zero, add-suc, not-suc-le-zero, le_of_suc-le-suc, eq
 use native.Mathlib.Omega.{arith}
 use borrow.Author.Tests.{eqb-true, eqb-false, eq-eqb, ne_eqb}
 use lib.Dec.{eqb}
+use Rattle.std.specs.Prelude.{Option, Some, None}
 use Rattle.line.specs.Decoding.{good_run, is_word}
-use Rattle.line.specs.declared.codes.Value.{Value}
-use Rattle.line.specs.declared.codes.Value.TheVariants.{Is, NoWord}
 
 -- one word more, where a words stand before the run g of b words
 added : (a b g : ℕ) (u t : Bool) → eqb g b ≡ t
@@ -30,7 +29,7 @@ unbroken m g true e true word le h = (eqb-true g m e, word)
 unbroken m g true e false word le h = absurd (omega arith)
 unbroken m g false e u word le h = absurd (omega arith)
 
-module _ (f : ℕ → Value) where
+module _ (f : ℕ → Option ℕ) where
   pub good_run-le : (m : ℕ) → good_run f m ≤ m
   unfolding good_run
   good_run-le zero = omega arith
@@ -40,11 +39,11 @@ module _ (f : ℕ → Value) where
     by true false h = omega arith
     by false u h = omega arith
 
-  pub good_run_good : (m x : ℕ) → good_run f m ≡ m → f m ≡ Is x → good_run f (suc m) ≡ suc m
+  pub good_run_good : (m x : ℕ) → good_run f m ≡ m → f m ≡ Some x → good_run f (suc m) ≡ suc m
   unfolding good_run
   good_run_good m x run word = rw (eq-eqb (good_run f m) m run, word)
 
-  pub good_run_bad : (m : ℕ) → good_run f m ≡ m → f m ≡ NoWord → good_run f (suc m) ≡ m
+  pub good_run_bad : (m : ℕ) → good_run f m ≡ m → f m ≡ None → good_run f (suc m) ≡ m
   unfolding good_run
   good_run_bad m run word = rw (eq-eqb (good_run f m) m run, word)
 
@@ -81,7 +80,7 @@ module _ (f : ℕ → Value) where
       let ih : good_run f m ≡ m = good_run_whole m (λ i h. all i (omega arith)) in
       rw (eq-eqb (good_run f m) m ih, all m (omega arith))
 
-pub good_run_same : (f g : ℕ → Value) (m : ℕ) → ((i : ℕ) → i < m → f i ≡ g i) → good_run f m ≡ good_run g m
+pub good_run_same : (f g : ℕ → Option ℕ) (m : ℕ) → ((i : ℕ) → i < m → f i ≡ g i) → good_run f m ≡ good_run g m
 unfolding good_run
 good_run_same f g zero same = refl
 good_run_same f g (suc m) same =

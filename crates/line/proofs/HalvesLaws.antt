@@ -1,15 +1,20 @@
--- Three-of-six read a byte at a time: its two words are looked up in a table of 64 (specs/Inner).
---     row_of_listed             what is cut out of a row for a word is what is listed for it, by computing all 64; that
---                              the source's rows are these is a computation too (`line::codes::row`)
---     Halves-none, Halves-step    a table is filled from the front, entry after entry
---     half_of_is, half_of_none   what a number of the table says of its word
+-- Three-of-six read a byte at a time: its two words are looked up in a table of 64 (`line::codes::half_of`).
+--     half_of v          what is listed for a three-of-six word that stands for v: 16 for no code word
+--     listed_for y       what is listed for the word y
+--     row_of i           this for the eight words from 8 * i on, as one number: two hexadecimal digits each
+--     Halves n t         t is a table of 64 and lists this for each of the first n words
+--     row_of_listed             Table 10 in rows of eight, each one number: what is cut out of a row for a word is what
+--                              is listed for it, by computing all 64
+--     Halves-none, Halves-step    a table of what is listed, filled from the front, entry after entry
+--     half_of_is, half_of_none   what a number listed says of its word
+--     listed_some, listed_none   and the other way round
 --     half_at_first, half_at_second    the two words of the byte, cut out of the 32 chips from its first byte on
 --     byte_read_first, byte_read_second    the byte's answer where the first or the second word is no code word
 --     byte_read_both            and where both are
 use mathlib.Core.Bool.{Bool, true, false}
 use mathlib.Core.Path.{◌≡◌, refl, ap, sym, ◌∙◌}
 use mathlib.Core.List.{List}
-use Prim.Native.Nat.{ℕ, ◌+◌, ◌*◌, ◌-◌, ◌/◌, ◌%◌, ◌^◌, ◌<◌, ◌≤◌}
+use Prim.Native.Nat.{ℕ, zero, suc, ◌+◌, ◌*◌, ◌-◌, ◌/◌, ◌%◌, ◌^◌, ◌<◌, ◌≤◌}
 use native.Mathlib.Nat.{not-suc-le-zero}
 use native.Mathlib.Omega.{arith}
 use borrow.Author.Tests.{eqb-true, eqb-false}
@@ -17,6 +22,7 @@ use lib.Dec.{eqb}
 use lib.ListN.{length, get_or, set, length-set}
 use lib.Seq.{get_or-set_same, get_or-set_other}
 use lib.Pow.{shr-shr}
+use Rattle.std.specs.Prelude.{Option, Some, None, unwrap_or, Ok, Err}
 use Rattle.chips.proofs.WindowLaws.{word_at_window}
 use Rattle.chips.specs.Chips.{word_at}
 use Rattle.ground.proofs.TableLaws.{get_or_values}
@@ -24,14 +30,28 @@ use Rattle.line.proofs.CodeLaws.{lawful, word_value_is}
 use Rattle.line.proofs.JoiningLaws.{Joining, joining_start, joining_step, joining_bad, joining_end}
 use Rattle.line.specs.Codes.{LineCode, code_of, word_value, number_for}
 use Rattle.line.specs.Decoding.{value_at}
-use Rattle.line.specs.Inner.{half_of, listed_for, row_of, Halves, byte_read}
-use Rattle.line.specs.declared.decoding.Byte.TheVariants as byte
+use Rattle.line.specs.Inner.{byte_read}
 use Rattle.line.specs.declared.codes.Code.TheVariants.{ThreeOfSix}
-use Rattle.line.specs.declared.codes.Value.{Value}
-use Rattle.line.specs.declared.codes.Value.TheVariants.{Is, NoWord}
 
 abbrev κ : LineCode
 κ = code_of ThreeOfSix
+
+abbrev pub half_of : Option ℕ → ℕ
+half_of v = unwrap_or v 16
+
+abbrev pub listed_for : ℕ → ℕ
+listed_for y = half_of (word_value κ y)
+
+abbrev listed_up : ℕ → ℕ → ℕ
+listed_up y zero = 0
+listed_up y (suc n) = listed_up y n * 256 + listed_for (y + n)
+
+abbrev pub row_of : ℕ → ℕ
+row_of i = listed_up (8 * i) 8
+
+pub record Halves (n : ℕ) (t : List ℕ) : Type 0 where
+  pub size : length t ≡ 64
+  pub entry : (y : ℕ) → y < n → get_or t y 0 ≡ listed_for y
 
 -- what the source cuts out of a row for the word y
 abbrev cut_out : ℕ → ℕ
@@ -58,17 +78,23 @@ Halves-step {n} {t} {x} w h is =
       entry = λ y l. Halves-set w h is y (omega arith) (eqb y n) refl;
     }
 
-pub half_of_is : (y : ℕ) {x : ℕ} → x ≡ half_of (word_value κ y) → x < 16 → word_value κ y ≡ Is x
+pub half_of_is : (y : ℕ) {x : ℕ} → x ≡ half_of (word_value κ y) → x < 16 → word_value κ y ≡ Some x
 half_of_is y {x} e h = by (word_value κ y) e where
-  by : (v : Value) → x ≡ half_of v → v ≡ Is x
-  by (Is z) e = ap Is (sym e)
-  by NoWord e = absurd (omega arith)
+  by : (v : Option ℕ) → x ≡ half_of v → v ≡ Some x
+  by (Some z) e = ap Some (sym e)
+  by None e = absurd (omega arith)
 
-pub half_of_none : (y : ℕ) {x : ℕ} → x ≡ half_of (word_value κ y) → 15 < x → word_value κ y ≡ NoWord
+pub half_of_none : (y : ℕ) {x : ℕ} → x ≡ half_of (word_value κ y) → 15 < x → word_value κ y ≡ None
 half_of_none y {x} e h = by (word_value κ y) refl e where
-  by : (v : Value) → word_value κ y ≡ v → x ≡ half_of v → v ≡ NoWord
-  by (Is z) found e = absurd (omega (arith, (word_value_is κ y z found).0))
-  by NoWord found e = refl
+  by : (v : Option ℕ) → word_value κ y ≡ v → x ≡ half_of v → v ≡ None
+  by (Some z) found e = absurd (omega (arith, (word_value_is κ y z found).0))
+  by None found e = refl
+
+pub listed_some : (y : ℕ) {h : ℕ} → word_value κ y ≡ Some h → (h ≡ listed_for y) × (h ≤ 15)
+listed_some y e = (sym (ap half_of e), omega (arith, word_value_is κ y _ e))
+
+pub listed_none : (y : ℕ) → word_value κ y ≡ None → 15 < listed_for y
+listed_none y e = rw e (omega arith)
 
 -- the 32 chips from the byte of chip `at` on, shifted down until the byte's last chip is the lowest
 abbrev half_at : List ℕ → ℕ → ℕ
@@ -89,45 +115,32 @@ half_at_second s at =
     ap (λ (n : ℕ). word_at s (8 * (at / 8)) 32 / 2 ^ n % 2 ^ 6) rest
     ∙ (word_at_window s (at / 8) 32 (at % 8 + 6) 6 (omega arith) ∙ ap (λ (n : ℕ). word_at s n 6) place)
 
--- x is the 32 chips from the byte of chip `at` on, and the table t has these numbers for the two words of the byte
-abbrev high_in : List ℕ → ℕ → ℕ → ℕ
-high_in t x at = get_or t (x / 2 ^ (20 - at % 8) / 64 % 64) 0
+-- x is the 32 chips from the byte of chip `at` on, and `high` and `low` are what is listed for the byte's two words
+module _ (s : List ℕ) (at : ℕ) {x : ℕ} (half : x ≡ word_at s (8 * (at / 8)) 32) where
+  module _ {high : ℕ} (first : high ≡ listed_for (x / 2 ^ (20 - at % 8) / 64 % 64)) where
+    high_is : high ≡ half_of (value_at κ s at 0)
+    high_is = first ∙ ap (λ (y : ℕ). half_of (word_value κ y)) (rw half (half_at_first s at))
 
-abbrev low_in : List ℕ → ℕ → ℕ → ℕ
-low_in t x at = get_or t (x / 2 ^ (20 - at % 8) % 64) 0
+    before : Joining κ s at 4 6 2 12 0 0
+    before = joining_start (record { law = lawful ThreeOfSix; b-eq = refl; w-eq = refl; m-eq = refl }) refl
 
-module _ {t : List ℕ} (table : Halves 64 t) (s : List ℕ) (at : ℕ) {x : ℕ} (half : x ≡ word_at s (8 * (at / 8)) 32) where
-  high_in_is : high_in t x at ≡ half_of (value_at κ s at 0)
-  high_in_is =
-      table.entry (x / 2 ^ (20 - at % 8) / 64 % 64) (omega arith)
-      ∙ ap (λ (y : ℕ). half_of (word_value κ y)) (rw half (half_at_first s at))
+    after_high : high ≤ 15 → Joining κ s at 4 6 2 12 (0 * 2 ^ 4 + high) 1
+    after_high h = joining_step before (omega arith) (half_of_is (word_at s (at + 0 * 6) 6) high_is (omega arith))
 
-  low_in_is : low_in t x at ≡ half_of (value_at κ s at 1)
-  low_in_is =
-      table.entry (x / 2 ^ (20 - at % 8) % 64) (omega arith)
-      ∙ ap (λ (y : ℕ). half_of (word_value κ y)) (rw half (half_at_second s at))
+    pub byte_read_first : 15 < high → byte_read κ s at ≡ Err 0
+    byte_read_first h = joining_bad before (omega arith) (half_of_none (word_at s (at + 0 * 6) 6) high_is h)
 
-  before : Joining κ s at 4 6 2 12 0 0
-  before = joining_start (record { law = lawful ThreeOfSix; b-eq = refl; w-eq = refl; m-eq = refl }) refl
+    module _ (h : high ≤ 15) {low : ℕ} (second : low ≡ listed_for (x / 2 ^ (20 - at % 8) % 64)) where
+      low_is : low ≡ half_of (value_at κ s at 1)
+      low_is = second ∙ ap (λ (y : ℕ). half_of (word_value κ y)) (rw half (half_at_second s at))
 
-  after_high : high_in t x at ≤ 15 → Joining κ s at 4 6 2 12 (0 * 2 ^ 4 + high_in t x at) 1
-  after_high h =
-      joining_step before (omega arith) (half_of_is (word_at s (at + 0 * 6) 6) high_in_is (omega arith))
+      pub byte_read_second : 15 < low → byte_read κ s at ≡ Err 1
+      byte_read_second l =
+          joining_bad (after_high h) (omega arith) (half_of_none (word_at s (at + 1 * 6) 6) low_is l)
 
-  pub byte_read_first : 15 < high_in t x at → byte_read κ s at ≡ byte.Bad 0
-  byte_read_first h =
-      joining_bad before (omega arith) (half_of_none (word_at s (at + 0 * 6) 6) high_in_is h)
-
-  module _ (h : high_in t x at ≤ 15) where
-    pub byte_read_second : 15 < low_in t x at → byte_read κ s at ≡ byte.Bad 1
-    byte_read_second l =
-        joining_bad (after_high h) (omega arith) (half_of_none (word_at s (at + 1 * 6) 6) low_in_is l)
-
-    pub byte_read_both : low_in t x at ≤ 15
-        → byte_read κ s at ≡ byte.Is (high_in t x at * 16 + low_in t x at)
-    byte_read_both l =
-        let two = joining_step (after_high h) (omega arith)
-        (half_of_is (word_at s (at + 1 * 6) 6) low_in_is (omega arith)) in
-        let same : (0 * 2 ^ 4 + high_in t x at) * 2 ^ 4 + low_in t x at
-        ≡ high_in t x at * 16 + low_in t x at = omega arith in
-        joining_end two (omega arith) ∙ ap byte.Is same
+      pub byte_read_both : low ≤ 15 → byte_read κ s at ≡ Ok (high * 16 + low)
+      byte_read_both l =
+          let two = joining_step (after_high h) (omega arith)
+          (half_of_is (word_at s (at + 1 * 6) 6) low_is (omega arith)) in
+          let same : (0 * 2 ^ 4 + high) * 2 ^ 4 + low ≡ high * 16 + low = omega arith in
+          joining_end two (omega arith) ∙ ap Ok same

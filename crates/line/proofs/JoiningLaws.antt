@@ -3,7 +3,6 @@
 --     Joining            u is the chips of a byte; the first k words are code words, and x is the number that they
 --                        make, one behind the other
 --     joining_start      before the first word
---     joining_le         a byte has at most 16 chips
 --     joining_lt         x is always a byte
 --     joining_inside     word k lies in the byte's chips
 --     joining_value      what word k stands for, cut out of the byte's chips
@@ -20,6 +19,7 @@ use native.Mathlib.Numerals.{add-one}
 use native.Mathlib.Omega.{arith}
 use borrow.Author.Tests.{lt-ltb, le-ltb}
 use lib.Pow.{pow_mono}
+use Rattle.std.specs.Prelude.{Option, Some, None, Ok, Err}
 use Rattle.chips.proofs.GatherLaws.{gather-lt, gather_within, chip_at-lt}
 use Rattle.chips.specs.Chips.{gather, chip_at, word_at}
 use Rattle.line.proofs.CodeLaws.{lawful, Sizes}
@@ -29,10 +29,7 @@ use Rattle.line.proofs.GoodRunLaws.{good_run_good, good_run_bad, good_run_stays}
 use Rattle.line.specs.Codes.{LineCode, code_of, word_value}
 use Rattle.line.specs.Decoding.{value_at, good_run, decoded_chip}
 use Rattle.line.specs.Inner.{unit_of, byte_read}
-use Rattle.line.specs.declared.decoding.Byte.TheVariants as byte
 use Rattle.line.specs.declared.codes.Code.TheVariants.{Nrz}
-use Rattle.line.specs.declared.codes.Value.{Value}
-use Rattle.line.specs.declared.codes.Value.TheVariants.{Is, NoWord}
 
 pub record Joining (κ : LineCode) (s : List ℕ) (at b w m u x k : ℕ) : Type 0 where
   pub sizes : Sizes κ b w m
@@ -48,9 +45,6 @@ joining_start sizes u_eq =
     record { sizes = sizes; u_eq = u_eq; passed = omega arith; run = refl; joined = rw zero-mul }
 
 module _ {κ : LineCode} {s : List ℕ} {at b w m u x k : ℕ} (inv : Joining κ s at b w m u x k) where
-  pub joining_le : u ≤ 16
-  joining_le = omega (arith, inv.u_eq, inv.sizes.law.unit_le)
-
   pub joining_lt : x < 256
   joining_lt =
       let bound : k * κ.bits ≤ m * κ.bits = mul-le-mul_right κ.bits inv.passed in
@@ -63,7 +57,7 @@ module _ {κ : LineCode} {s : List ℕ} {at b w m u x k : ℕ} (inv : Joining κ
       let all : m * w ≡ u = rw (inv.sizes.m-eq, inv.sizes.w-eq, inv.u_eq) in
       omega (arith, mul-add-le k m w h)
 
-  pub joining_value : {v : Value} {all y : ℕ} → k < m → all ≡ word_at s at u → y ≡ all / 2 ^ (u - w - k * w) % 2 ^ w
+  pub joining_value : {v : Option ℕ} {all y : ℕ} → k < m → all ≡ word_at s at u → y ≡ all / 2 ^ (u - w - k * w) % 2 ^ w
       → v ≡ word_value κ y → value_at κ s at k ≡ v
   joining_value {y = y} h fetched cut told =
       let chips : k * w + w + (u - w - k * w) ≡ u = omega (arith, joining_inside h) in
@@ -71,7 +65,7 @@ module _ {κ : LineCode} {s : List ℕ} {at b w m u x k : ℕ} (inv : Joining κ
       = cut ∙ rw fetched (rw chips at (gather_within (chip_at s) (chip_at-lt s) at (k * w) w (u - w - k * w))) in
       sym (told ∙ ap (word_value κ) word ∙ rw inv.sizes.w-eq)
 
-  pub joining_step : {v : ℕ} → k < m → value_at κ s at k ≡ Is v → Joining κ s at b w m u (x * 2 ^ b + v) (k + 1)
+  pub joining_step : {v : ℕ} → k < m → value_at κ s at k ≡ Some v → Joining κ s at b w m u (x * 2 ^ b + v) (k + 1)
   joining_step {v} h e =
       record {
         sizes = inv.sizes;
@@ -81,7 +75,7 @@ module _ {κ : LineCode} {s : List ℕ} {at b w m u x k : ℕ} (inv : Joining κ
         joined = rw (inv.sizes.b-eq, inv.joined) (gather-decoded_chip-suc κ s at k v e);
       }
 
-  pub joining_bad : k < m → value_at κ s at k ≡ NoWord → byte_read κ s at ≡ byte.Bad k
+  pub joining_bad : k < m → value_at κ s at k ≡ None → byte_read κ s at ≡ Err k
   unfolding byte_read
   joining_bad h e =
       let whole : suc k + (m - suc k) ≡ 8 / κ.bits = rw (← inv.sizes.m-eq) (omega arith) in
@@ -90,23 +84,23 @@ module _ {κ : LineCode} {s : List ℕ} {at b w m u x k : ℕ} (inv : Joining κ
       = rw whole at (good_run_stays (value_at κ s at) k (suc k) (m - suc k) at-k (omega arith)) in
       rw (broken, lt-ltb k (8 / κ.bits) (rw (← inv.sizes.m-eq) h))
 
-  pub joining_end : m ≤ k → byte_read κ s at ≡ byte.Is x
+  pub joining_end : m ≤ k → byte_read κ s at ≡ Ok x
   unfolding byte_read
   joining_end h =
       let all : k ≡ 8 / κ.bits = omega (arith, inv.passed, inv.sizes.m-eq) in
       let run : good_run (value_at κ s at) (8 / κ.bits) ≡ 8 / κ.bits = rw all at inv.run in
       let joined : x ≡ gather (decoded_chip κ s at) 0 8 = inv.joined ∙ rw (all, inv.sizes.law.whole) in
-      rw (run, le-ltb (8 / κ.bits) (8 / κ.bits) (omega arith)) (ap byte.Is (sym joined))
+      rw (run, le-ltb (8 / κ.bits) (8 / κ.bits) (omega arith)) (ap Ok (sym joined))
 
 pub joining_room : {κ : LineCode} {s : List ℕ} {at b w m u x k v : ℕ} → Joining κ s at b w m u x k
-    → k < m → value_at κ s at k ≡ Is v → x * 2 ^ b + v < 256
+    → k < m → value_at κ s at k ≡ Some v → x * 2 ^ b + v < 256
 joining_room inv h e = joining_lt (joining_step inv h e)
 
-pub byte_read_nrz : (s : List ℕ) (at : ℕ) → byte_read (code_of Nrz) s at ≡ byte.Is (word_at s at 8)
+pub byte_read_nrz : (s : List ℕ) (at : ℕ) → byte_read (code_of Nrz) s at ≡ Ok (word_at s at 8)
 byte_read_nrz s at =
     let here : at + 0 * 8 ≡ at = omega arith in
-    let value : value_at (code_of Nrz) s at 0 ≡ Is (word_at s at 8)
+    let value : value_at (code_of Nrz) s at 0 ≡ Some (word_at s at 8)
     = rw here ((lawful Nrz).back (word_at s at 8) (gather-lt (chip_at s) (chip_at-lt s) at 8)) in
     let sizes : Sizes (code_of Nrz) 8 8 1 = record { law = lawful Nrz; b-eq = refl; w-eq = refl; m-eq = refl } in
     let start : Joining (code_of Nrz) s at 8 8 1 8 0 0 = joining_start sizes refl in
-    joining_end (joining_step start (omega arith) value) (omega arith) ∙ ap byte.Is (omega arith)
+    joining_end (joining_step start (omega arith) value) (omega arith) ∙ ap Ok (omega arith)

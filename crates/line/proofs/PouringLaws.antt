@@ -4,19 +4,20 @@
 --     Held               the chips from 8 * j on that are at hand: `count` of them, up to the end of the i bytes taken
 --                        in, making `held`
 --     Pouring            fewer than sixteen are at hand, and the first j bytes are written
---     pouring_start, held_more, held-lt, held_byte, held_rest, pouring_next, pouring_length, pouring_step, pouring_end
+--     pouring_start, held_more, held-lt, held_byte, held_rest, pouring_step, pouring_end
 use mathlib.Core.Path.{◌≡◌, refl, ap, sym, ◌∙◌}
-use mathlib.Core.List.{List, ◌++◌}
+use mathlib.Core.List.{List, [], ◌++◌}
 use Prim.Native.Nat.{ℕ, ◌+◌, ◌*◌, ◌-◌, ◌/◌, ◌%◌, ◌^◌, ◌<◌, ◌≤◌}
-use native.Mathlib.Nat.{zero-mul, mul-le-mul_left}
+use native.Mathlib.Nat.{zero-mul}
 use native.Mathlib.Omega.{arith}
 use lib.ListN.{length, drop, set}
 use lib.Pow.{pow_mono}
+use lib.Seq.{drop-length}
+use Rattle.std.proofs.lemmas.List.{append-nil}
 use Rattle.chips.proofs.GatherLaws.{gather-add, gather-lt, gather_within}
-use Rattle.chips.proofs.PackingLaws.{gather_rest, length-tabulate}
+use Rattle.chips.proofs.PackingLaws.{gather_rest}
 use Rattle.chips.specs.Chips.{gather}
 use Rattle.chips.specs.Packing.{tabulate}
-use Rattle.ground.proofs.FrontLaws.{front_length}
 use Rattle.line.proofs.CopyLaws.{set_tabulated}
 use Rattle.line.proofs.DigitLaws.{add_one-mul}
 
@@ -81,14 +82,6 @@ module _ {f : ℕ → ℕ} {unit held count i j : ℕ} (bit : (k : ℕ) → f k 
 
 module _ {f : ℕ → ℕ} {size unit held count i j : ℕ} {out was : List ℕ}
     (inv : Pouring f size unit held count i j out was) where
-  -- no more bytes are taken in than are written
-  pub pouring_next : count < 8 → i ≤ j
-  pouring_next h = omega (arith, inv.at_hand.place, mul-le-mul_left i inv.source.unit_ge)
-
-  pub pouring_length : size ≤ length was → length out ≡ length was
-  pouring_length h =
-      rw inv.filled (front_length (tabulate (byte_of f) j) was j (length-tabulate _ j) (omega (arith, inv.passed)))
-
   pub pouring_step : {h c n : ℕ} → Held f unit h c n j × ((8 ≤ c) × (c ≤ 23)) → j < size → size ≤ length was
       → Pouring f size unit (h % 2 ^ (c - 8)) (c - 8) n (j + 1) (set out j (h / 2 ^ (c - 8) % 2 ^ 8)) was
   pouring_step ready lt room =
@@ -101,7 +94,8 @@ module _ {f : ℕ → ℕ} {size unit held count i j : ℕ} {out was : List ℕ}
         filled = set_tabulated (byte_of f) was inv.filled (held_byte inv.source.bit ready.0 ge) (omega arith);
       }
 
-  pub pouring_end : size ≤ j → out ≡ tabulate (byte_of f) size ++ drop size was
-  pouring_end h =
+  pub pouring_end : size ≤ j → size ≡ length was → out ≡ tabulate (byte_of f) size
+  pouring_end h all =
       let last : j ≡ size = omega (arith, inv.passed) in
-      rw last at inv.filled
+      let none : drop size was ≡ [] = rw all (drop-length was) in
+      (rw last at inv.filled) ∙ rw (none, append-nil)

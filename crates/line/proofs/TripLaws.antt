@@ -13,7 +13,7 @@
 --     decoding-encoding     decoding what was encoded gives back the bytes
 --     encoding-decoding     encoding what was decoded gives back the chips
 --     div-lt_of-lt-mul, words_in_mul_bits    which word a chip or bit belongs to
---     length-encoding, encoding-lt, length-decoding, decoding-lt
+--     length-encoding, length-decoding, decoding-lt
 use mathlib.Core.Path.{◌≡◌, refl, ap, sym, ◌∙◌}
 use mathlib.Core.Bool.{true}
 use mathlib.Core.Logic.{◌↔◌}
@@ -23,6 +23,8 @@ use native.Mathlib.Nat.{mul_assoc, zero-add, div-lt_iff_lt-mul}
 use native.Mathlib.Omega.{arith}
 use lib.ListN.{length, get_or, drop}
 use lib.Seq.{ext_get_or}
+use Rattle.std.specs.Prelude.{Option, Some, None, Ok}
+use Rattle.answers.specs.Outcome.{leaving}
 use Rattle.chips.proofs.GatherLaws.{gather-lt, chip_at-lt}
 use Rattle.chips.proofs.PackingLaws.{gather_same, spread_gather, get_or_tabulate, length-tabulate, packed_whole, length_packed, packed_lt, chip_at_packed, word_at_packed, up_to_within, chip_at_middle}
 use Rattle.chips.proofs.WindowLaws.{word_at_byte}
@@ -39,9 +41,6 @@ use Rattle.line.specs.Codes.{LineCode, word_value, words_in, chips_in}
 use Rattle.line.specs.Decoding.{value_at, is_word, number_in, good_run, decoded_chip, decoding, decoded}
 use Rattle.line.specs.Encoding.{encoded_chip, encoding, encoded_size}
 use Rattle.line.specs.Inner.{sent_chip}
-use Rattle.line.specs.declared.decoding.Decoded.TheVariants.{Accepted}
-use Rattle.line.specs.declared.codes.Value.{Value}
-use Rattle.line.specs.declared.codes.Value.TheVariants.{Is, NoWord}
 
 abbrev pub Holds : LineCode → List ℕ → ℕ → List ℕ → Type 0
 Holds κ s start b = (k : ℕ) → k < chips_in κ (length b) → chip_at s (start + k) ≡ encoded_chip κ b k
@@ -63,7 +62,8 @@ module _ {κ : LineCode} (law : Lawful κ) (s : List ℕ) (start : ℕ) where
         (λ k lt. let place : start + i * κ.chips + k ≡ start + (i * κ.chips + k) = omega arith in
         rw place (holds (i * κ.chips + k) (omega (arith, mul-add-le i (words_in κ (length b)) κ.chips h))))
 
-    pub value_at_holds : (i : ℕ) → i < words_in κ (length b) → value_at κ s start i ≡ Is (word_at b (i * κ.bits) κ.bits)
+    pub value_at_holds : (i : ℕ) → i < words_in κ (length b)
+        → value_at κ s start i ≡ Some (word_at b (i * κ.bits) κ.bits)
     value_at_holds i h =
         ap (word_value κ) (word_at_holds i h ∙ gather-encoded_chip law b i)
         ∙ law.back (word_at b (i * κ.bits) κ.bits) (gather-lt (chip_at b) (chip_at-lt b) (i * κ.bits) κ.bits)
@@ -107,10 +107,10 @@ module _ (κ : LineCode) (s : List ℕ) (start n : ℕ) where
   decoding-lt j = packed_lt (8 * n) (decoded_chip κ s start) (λ k. omega arith) j
 
 -- the code word of what a word stands for is that word
-word_of_number_in : (κ : LineCode) (y : ℕ) (v : Value) → word_value κ y ≡ v → is_word v ≡ true
+word_of_number_in : (κ : LineCode) (y : ℕ) (v : Option ℕ) → word_value κ y ≡ v → is_word v ≡ true
     → κ.word_of (number_in v) ≡ y
-word_of_number_in κ y (Is x) e t = (word_value_is κ y x e).1
-word_of_number_in κ y NoWord e t = absurd (zero_not_one (cc))
+word_of_number_in κ y (Some x) e t = (word_value_is κ y x e).1
+word_of_number_in κ y None e t = absurd (zero_not_one (cc))
 
 module _ {κ : LineCode} (law : Lawful κ) (s : List ℕ) (start n : ℕ)
     (run : good_run (value_at κ s start) (words_in κ n) ≡ words_in κ n) where
@@ -158,10 +158,6 @@ module _ (κ : LineCode) (b : List ℕ) where
   unfolding encoding
   length-encoding = length_packed (chips_in κ (length b)) (encoded_chip κ b)
 
-  pub encoding-lt : (j : ℕ) → get_or (encoding κ b) j 0 < 256
-  unfolding encoding
-  encoding-lt = packed_lt (chips_in κ (length b)) (encoded_chip κ b) (λ k. omega arith)
-
   pub chip_at-encoding : (k : ℕ) → chip_at (encoding κ b) k ≡ sent_chip κ b k
   unfolding encoding
   chip_at-encoding = chip_at_packed (chips_in κ (length b)) (encoded_chip κ b) (λ k. omega arith)
@@ -175,12 +171,12 @@ module _ (κ : LineCode) (b : List ℕ) where
 module _ {κ : LineCode} (law : Lawful κ) (s : List ℕ) (start : ℕ) (d : List ℕ) where
   pub decoded-encoded : (b : List ℕ) → ((j : ℕ) → get_or b j 0 < 256) → Holds κ s start b
       → length s ≤ room_limit → start + chips_in κ (length b) ≤ chip_count s → length b ≤ length d
-      → decoded κ s start (length b) d ≡ record { answer = Accepted; memory = b ++ drop (length b) d }
+      → decoded κ s start (length b) d ≡ leaving (Ok tt) (b ++ drop (length b) d)
   decoded-encoded b bytes holds small fits room =
       decoded-accepted κ s start (length b) d small fits (good_run_encode law s start b holds) room
       ∙ rw (decode_encode law s start b holds bytes)
 
-  pub encoded-decoded : (n : ℕ) → (decoded κ s start n d).answer ≡ Accepted → Holds κ s start (decoding κ s start n)
+  pub encoded-decoded : (n : ℕ) → (decoded κ s start n d).answer ≡ Ok tt → Holds κ s start (decoding κ s start n)
   encoded-decoded n h = encode_decode law s start n (decoded_accepts κ s start n d h).words
 
 -- both round trips in one line each

@@ -9,6 +9,7 @@ use mathlib.Core.Path.{◌≡◌, refl, ◌∙◌}
 use mathlib.Core.List.{List, [], ◌∷◌, map}
 use Prim.Native.Nat.{ℕ, ◌<◌, ◌≤◌}
 use lib.ListN.{length}
+use Rattle.std.specs.Prelude.{Some, None}
 use Rattle.chips.proofs.PackingLaws.{up_to_behind}
 use Rattle.chips.specs.Chips.{gather, chip_at}
 use Rattle.chips.specs.Packing.{tabulate, packed}
@@ -17,7 +18,6 @@ use Rattle.line.proofs.TripLaws.{length-encoding, chip_at-encoding}
 use Rattle.line.specs.Codes.{LineCode, code_of, number_for, word_value, chips_in}
 use Rattle.line.specs.Encoding.{encoded_chip, encoding}
 use Rattle.line.specs.declared.codes.Code.TheVariants.{Nrz, ThreeOfSix, Manchester}
-use Rattle.line.specs.declared.codes.Value.TheVariants.{Is, NoWord}
 
 pub three_of_six_C2 : encoding (code_of ThreeOfSix) (0xAE ∷ 0x0C ∷ []) ≡ 0b10011011 ∷ 0b00100101 ∷ 0b10110100 ∷ []
 unfolding gather tabulate packed encoding
@@ -47,10 +47,10 @@ three_of_six_15 b e =
     )
 
 pub never_words : (map (word_value (code_of ThreeOfSix)) (7 ∷ 21 ∷ 42 ∷ 56 ∷ [])
-    ≡ NoWord ∷ NoWord ∷ NoWord ∷ NoWord ∷ [])
-    × (map (word_value (code_of Manchester)) (0b00 ∷ 0b11 ∷ []) ≡ NoWord ∷ NoWord ∷ [])
+    ≡ None ∷ None ∷ None ∷ None ∷ [])
+    × (map (word_value (code_of Manchester)) (0b00 ∷ 0b11 ∷ []) ≡ None ∷ None ∷ [])
 unfolding number_for
 never_words = (refl, refl)
 
-pub nrz_every : (y : ℕ) → y < 256 → word_value (code_of Nrz) y ≡ Is y
+pub nrz_every : (y : ℕ) → y < 256 → word_value (code_of Nrz) y ≡ Some y
 nrz_every y h = (lawful Nrz).back y h

@@ -3,14 +3,12 @@
 --     LineCode         bits and chips of a word, and word_of, the code word of each number below 2 ^ bits
 --     code_of           which code each case of the enum Code is: the only place where the three differ
 --     code_words        three-of-six: the code words of 0 to 15
---     word_value κ y    the number whose code word y is; NoWord where y is no code word
+--     word_value κ y    the number whose code word y is; None where y is no code word
 --     words_in κ n      how many words n bytes take
 --     chips_in κ n      how many chips n bytes take
-use Rattle.std.specs.Prelude.{cond, List, [], ◌∷◌, ℕ, zero, suc, ◌*◌, ◌/◌, ◌^◌, eqb, get_or}
+use Rattle.std.specs.Prelude.{cond, List, [], ◌∷◌, ℕ, zero, suc, ◌*◌, ◌/◌, ◌^◌, eqb, get_or, Option, Some, None}
 use Rattle.line.specs.declared.codes.Code.{Code}
 use Rattle.line.specs.declared.codes.Code.TheVariants.{Nrz, ThreeOfSix, Manchester}
-use Rattle.line.specs.declared.codes.Value.{Value}
-use Rattle.line.specs.declared.codes.Value.TheVariants.{Is, NoWord}
 
 pub record LineCode : Type 0 where
   pub bits : ℕ
@@ -27,11 +25,11 @@ code_of ThreeOfSix = record { bits = 4; chips = 6; word_of = λ x. get_or code_w
 code_of Manchester = record { bits = 1; chips = 2; word_of = λ x. get_or (2 ∷ 1 ∷ []) x 0 }
 
 -- the number below n whose word is y
-unfoldable pub number_for : (ℕ → ℕ) → ℕ → ℕ → Value
-number_for word y zero = NoWord
-number_for word y (suc n) = cond (eqb (word n) y) (Is n) (number_for word y n)
+unfoldable pub number_for : (ℕ → ℕ) → ℕ → ℕ → Option ℕ
+number_for word y zero = None
+number_for word y (suc n) = cond (eqb (word n) y) (Some n) (number_for word y n)
 
-abbrev pub word_value : LineCode → ℕ → Value
+abbrev pub word_value : LineCode → ℕ → Option ℕ
 word_value κ y = number_for κ.word_of y (2 ^ κ.bits)
 
 abbrev pub words_in : LineCode → ℕ → ℕ

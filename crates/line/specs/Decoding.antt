@@ -7,29 +7,24 @@
 --     decoding κ s start n       the n bytes that the words from chip `start` on stand for
 --     decoded κ s start n d      the answer, and what the lent memory holds then, d before
 -- A place after the last chip is no start (10); the chip count itself is one, at which only 0 bytes can be decoded.
-use Rattle.std.specs.Prelude.{Bool, true, false, cond, List, ◌++◌, ℕ, zero, suc, ◌+◌, ◌*◌, ltb, eqb, length, drop}
+use Rattle.std.specs.Prelude.{Bool, cond, List, ◌++◌, ℕ, zero, suc, ◌+◌, ◌*◌, ltb, eqb, length, drop, Option, is_some, unwrap_or, Result, Ok, Err, ⊤}
 use Rattle.answers.specs.Outcome.{Outcome, leaving}
+use Rattle.answers.specs.declared.Refusal.{Refusal}
 use Rattle.answers.specs.declared.Refusal.TheVariants.{Short, NoRoom, BadWord, OutOfRange}
 use Rattle.chips.specs.Chips.{word_at, chip_count, in_range}
 use Rattle.chips.specs.Packing.{spread, packed}
 use Rattle.line.specs.Codes.{LineCode, word_value, words_in, chips_in}
-use Rattle.line.specs.declared.codes.Value.{Value}
-use Rattle.line.specs.declared.codes.Value.TheVariants.{Is, NoWord}
-use Rattle.line.specs.declared.decoding.Decoded.{Decoded}
-use Rattle.line.specs.declared.decoding.Decoded.TheVariants.{Accepted, Refused}
 
-abbrev pub value_at : LineCode → List ℕ → ℕ → ℕ → Value
+abbrev pub value_at : LineCode → List ℕ → ℕ → ℕ → Option ℕ
 value_at κ s start i = word_value κ (word_at s (start + i * κ.chips) κ.chips)
 
-abbrev pub is_word : Value → Bool
-is_word (Is x) = true
-is_word NoWord = false
+abbrev pub is_word : Option ℕ → Bool
+is_word v = is_some v
 
-abbrev pub number_in : Value → ℕ
-number_in (Is x) = x
-number_in NoWord = 0
+abbrev pub number_in : Option ℕ → ℕ
+number_in v = unwrap_or v 0
 
-unfoldable pub good_run : (ℕ → Value) → ℕ → ℕ
+unfoldable pub good_run : (ℕ → Option ℕ) → ℕ → ℕ
 good_run f zero = 0
 good_run f (suc m) = cond (eqb (good_run f m) m) (cond (is_word (f m)) (suc m) m) (good_run f m)
 
@@ -39,12 +34,12 @@ decoded_chip κ s start = spread κ.bits (λ i. number_in (value_at κ s start i
 unfoldable pub decoding : LineCode → List ℕ → ℕ → ℕ → List ℕ
 decoding κ s start n = packed (8 * n) (decoded_chip κ s start)
 
-unfoldable pub decoded : LineCode → List ℕ → ℕ → ℕ → List ℕ → Outcome Decoded
+unfoldable pub decoded : LineCode → List ℕ → ℕ → ℕ → List ℕ → Outcome (Result ⊤ Refusal)
 decoded κ s start n d =
     cond (in_range s start)
-    (cond (ltb (chip_count s) (start + chips_in κ n)) (leaving (Refused Short) d)
+    (cond (ltb (chip_count s) (start + chips_in κ n)) (leaving (Err Short) d)
     (cond (ltb (good_run (value_at κ s start) (words_in κ n)) (words_in κ n))
-    (leaving (Refused (BadWord (good_run (value_at κ s start) (words_in κ n)))) d)
-    (cond (ltb (length d) n) (leaving (Refused NoRoom) d)
-    (record { answer = Accepted; memory = decoding κ s start n ++ drop n d }))))
-    (leaving (Refused OutOfRange) d)
+    (leaving (Err (BadWord (good_run (value_at κ s start) (words_in κ n)))) d)
+    (cond (ltb (length d) n) (leaving (Err NoRoom) d)
+    (leaving (Ok tt) (decoding κ s start n ++ drop n d)))))
+    (leaving (Err OutOfRange) d)

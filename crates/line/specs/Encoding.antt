@@ -3,11 +3,10 @@
 --     encoding κ s          the bytes that hold these chips
 --     encoded_size κ n       how many bytes the chips of n bytes take
 --     encoded κ s d         the answer, and what the lent memory holds then, d before
-use Rattle.std.specs.Prelude.{cond, List, ◌++◌, ℕ, ◌+◌, ◌*◌, ◌/◌, ltb, length, drop}
+use Rattle.std.specs.Prelude.{cond, List, ◌++◌, ℕ, ◌+◌, ◌*◌, ◌/◌, ltb, length, drop, Result, Ok, Err}
 use Rattle.answers.specs.Outcome.{Outcome, leaving}
+use Rattle.answers.specs.declared.Refusal.{Refusal}
 use Rattle.answers.specs.declared.Refusal.TheVariants.{NoRoom}
-use Rattle.answers.specs.declared.Written.{Written}
-use Rattle.answers.specs.declared.Written.TheVariants.{Accepted, Refused}
 use Rattle.chips.specs.Chips.{word_at}
 use Rattle.chips.specs.Packing.{spread, packed}
 use Rattle.line.specs.Codes.{LineCode, chips_in}
@@ -21,10 +20,7 @@ encoding κ s = packed (chips_in κ (length s)) (encoded_chip κ s)
 abbrev pub encoded_size : LineCode → ℕ → ℕ
 encoded_size κ n = (chips_in κ n + 7) / 8
 
-unfoldable pub encoded : LineCode → List ℕ → List ℕ → Outcome Written
+unfoldable pub encoded : LineCode → List ℕ → List ℕ → Outcome (Result ℕ Refusal)
 encoded κ s d =
-    cond (ltb (length d) (encoded_size κ (length s))) (leaving (Refused NoRoom) d)
-    (record {
-      answer = Accepted (encoded_size κ (length s));
-      memory = encoding κ s ++ drop (encoded_size κ (length s)) d;
-    })
+    cond (ltb (length d) (encoded_size κ (length s))) (leaving (Err NoRoom) d)
+    (leaving (Ok (encoded_size κ (length s))) (encoding κ s ++ drop (encoded_size κ (length s)) d))

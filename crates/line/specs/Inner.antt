@@ -1,50 +1,35 @@
 -- What the crate's inner functions promise each other. Nobody has to believe it: no promise of a public function and no
 -- demand cites it.
 --     unit_of κ           how many chips a byte takes
---     half_of v           what is listed for a three-of-six word that stands for v: 16 for no code word
---     listed_for y        what is listed for the word y
---     row_of i            this for the eight words from 8 * i on, as one number: two hexadecimal digits each
---     Halves n t         t is a table of 64 and lists this for each of the first n words
+--     AllWords κ s start n    the words of the n bytes from chip `start` on are code words
+--     NotWords κ s start n r    they are not all code words, and the refusal r has the place of the first that is none
 --     byte_read κ s at    the byte whose words begin at chip `at`, or the place of the first that is no code word
 --     sent_chip κ s k     chip k of what encoding writes: behind the code words of s every chip is 0
-use Rattle.std.specs.Prelude.{cond, ◌≡◌, List, ℕ, zero, suc, ◌+◌, ◌*◌, ◌/◌, ◌<◌, ltb, length, get_or}
+use Rattle.std.specs.Prelude.{cond, ◌≡◌, List, ℕ, ◌*◌, ◌/◌, ◌<◌, ltb, length, Result, Ok, Err}
+use Rattle.answers.specs.declared.Refusal.{Refusal}
+use Rattle.answers.specs.declared.Refusal.TheVariants.{BadWord}
 use Rattle.chips.specs.Chips.{gather}
 use Rattle.chips.specs.Packing.{up_to}
-use Rattle.line.specs.Codes.{LineCode, code_of, word_value, chips_in}
+use Rattle.line.specs.Codes.{LineCode, words_in, chips_in}
 use Rattle.line.specs.Decoding.{value_at, good_run, decoded_chip}
 use Rattle.line.specs.Encoding.{encoded_chip}
-use Rattle.line.specs.declared.codes.Code.TheVariants.{ThreeOfSix}
-use Rattle.line.specs.declared.codes.Value.{Value}
-use Rattle.line.specs.declared.codes.Value.TheVariants.{Is, NoWord}
-use Rattle.line.specs.declared.decoding.Byte.{Byte}
-use Rattle.line.specs.declared.decoding.Byte.TheVariants as byte
 
 abbrev pub unit_of : LineCode → ℕ
 unit_of κ = 8 / κ.bits * κ.chips
 
-abbrev pub half_of : Value → ℕ
-half_of (Is x) = x
-half_of NoWord = 16
+abbrev pub AllWords : LineCode → List ℕ → ℕ → ℕ → Type 0
+AllWords κ s start n = good_run (value_at κ s start) (words_in κ n) ≡ words_in κ n
 
-abbrev pub listed_for : ℕ → ℕ
-listed_for y = half_of (word_value (code_of ThreeOfSix) y)
+abbrev pub NotWords : LineCode → List ℕ → ℕ → ℕ → Refusal → Type 0
+NotWords κ s start n r =
+    (good_run (value_at κ s start) (words_in κ n) < words_in κ n)
+    × (r ≡ BadWord (good_run (value_at κ s start) (words_in κ n)))
 
-abbrev listed_up : ℕ → ℕ → ℕ
-listed_up y zero = 0
-listed_up y (suc n) = listed_up y n * 256 + listed_for (y + n)
-
-abbrev pub row_of : ℕ → ℕ
-row_of i = listed_up (8 * i) 8
-
-pub record Halves (n : ℕ) (t : List ℕ) : Type 0 where
-  pub size : length t ≡ 64
-  pub entry : (y : ℕ) → y < n → get_or t y 0 ≡ listed_for y
-
-unfoldable pub byte_read : LineCode → List ℕ → ℕ → Byte
+unfoldable pub byte_read : LineCode → List ℕ → ℕ → Result ℕ ℕ
 byte_read κ s at =
     cond (ltb (good_run (value_at κ s at) (8 / κ.bits)) (8 / κ.bits))
-    (byte.Bad (good_run (value_at κ s at) (8 / κ.bits)))
-    (byte.Is (gather (decoded_chip κ s at) 0 8))
+    (Err (good_run (value_at κ s at) (8 / κ.bits)))
+    (Ok (gather (decoded_chip κ s at) 0 8))
 
 abbrev pub sent_chip : LineCode → List ℕ → ℕ → ℕ
 sent_chip κ s = up_to (chips_in κ (length s)) (encoded_chip κ s)

@@ -6,7 +6,7 @@ pub(crate) fn low(x: usize, b: usize) -> usize
     requires { b ≤ 16 }
     ensures { result ≡ x % 2 ^ b }
 {
-    x % (1usize << (b as u32))
+    x % (1usize << b)
 }
 
 // b binary digits of x, behind them c digits.
@@ -14,7 +14,7 @@ pub(crate) fn part(x: usize, b: usize, c: usize) -> usize
     requires { (b ≤ 16) × (c ≤ 16) }
     ensures { result ≡ x / 2 ^ c % 2 ^ b }
 {
-    low(x >> (c as u32), b)
+    low(x >> c, b)
 }
 
 // x, and behind it b binary digits of y.
@@ -22,5 +22,5 @@ pub(crate) fn join(x: usize, b: usize, y: usize) -> usize
     requires { (b ≤ 16) × (x * 2 ^ b + y < 2 ^ 32) }
     ensures { result ≡ x * 2 ^ b + y }
 {
-    x * (1usize << (b as u32)) + y
+    x * (1usize << b) + y
 }

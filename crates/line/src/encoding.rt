@@ -1,24 +1,24 @@
 // Bytes, encoded into chips.
-ghost use Rattle.std.specs.Prelude.{◌≡◌, ◌++◌, ◌+◌, ◌*◌, ◌≤◌, length, drop};
-ghost use Rattle.answers.specs.Outcome.{Outcome};
-ghost use Rattle.answers.specs.declared.Written.{Written};
+ghost use Rattle.std.specs.Prelude.{◌≡◌, ◌*◌, ◌^◌, ◌<◌, length};
+ghost use Rattle.answers.specs.Outcome.{leaving};
 ghost use Rattle.chips.specs.Chips.{gather};
 ghost use Rattle.line.specs.Codes.{code_of};
 ghost use Rattle.line.specs.Encoding.{encoding, encoded_size, encoded};
 ghost use Rattle.line.specs.Inner.{unit_of, sent_chip};
 
 use crate::codes::Code;
-use crate::{codes, digits};
-use answers::{Refusal, Written};
+use crate::digits;
+use answers::Refusal;
 
-// How many bytes the code words of n bytes take more than n.
-fn more(code: Code, n: usize) -> usize
-    ensures { n + result ≡ encoded_size (code_of code) n }
+// How many bytes the code words of n bytes take.
+fn encoded_size(code: Code, n: usize) -> usize
+    requires { 2 * n < 2 ^ 64 }
+    ensures { result ≡ encoded_size (code_of code) n }
 {
     match code {
-        Code::Nrz => 0,
-        Code::ThreeOfSix => n / 2 + n % 2,
-        Code::Manchester => n,
+        Code::Nrz => n,
+        Code::ThreeOfSix => n + n.div_ceil(2),
+        Code::Manchester => 2 * n,
     }
 }
 
@@ -30,59 +30,49 @@ fn coded_byte(code: Code, s: &[u8], i: usize) -> usize
     if s.len() <= i {
         return 0;
     }
-    let b = codes::bits(code);
-    let w = codes::width(code);
-    let m = codes::per_byte(code);
-    let x = chips::wide(s[i]);
+    let b = code.bits();
+    let w = code.width();
+    let x = usize::from(s[i]);
     let mut all: usize = 0;
-    let mut k: usize = 0;
-    while k < m {
-        let word = codes::word_of(code, digits::part(x, b, 8 - b - k * b));
+    for k in 0..code.per_byte() {
+        let word = code.word_of(digits::part(x, b, 8 - b - k * b));
         all = digits::join(all, w, word);
-        k += 1;
     }
     all
 }
 
-// Writes the code words of `s` into the first `size` bytes of `out`, eight chips at a time. `held` has `count` chips
-// that are not written yet; where fewer than eight are left, the chips of the next byte are taken in.
-fn pour(code: Code, s: &[u8], size: usize, out: &mut [u8])
-    requires { (size ≡ encoded_size (code_of code) (length s.now)) × (size ≤ length out.old) }
-    ensures { out.new ≡ encoding (code_of code) s.now ++ drop size out.old }
+// Fills `out` with the code words of `s`, eight chips at a time. `held` has `count` chips that are not written yet;
+// where fewer than eight are left, the chips of the next byte are taken in.
+fn pour(code: Code, s: &[u8], out: &mut [u8])
+    requires { length out.old ≡ encoded_size (code_of code) (length s.now) }
+    ensures { out.new ≡ encoding (code_of code) s.now }
 {
-    let unit = codes::unit(code);
+    let unit = code.unit();
     let mut held: usize = 0;
     let mut count: usize = 0;
     let mut i: usize = 0;
-    let mut j: usize = 0;
-    while j < size {
+    for byte in out.iter_mut() {
         if count < 8 {
             held = digits::join(held, unit, coded_byte(code, s, i));
             count += unit;
             i += 1;
         }
         count -= 8;
-        out[j] = digits::part(held, 8, count) as u8;
+        *byte = digits::part(held, 8, count) as u8;
         held = digits::low(held, count);
-        j += 1;
     }
 }
 
-// Writes the code words of `s` into `out`, from its first byte on; refusal 4. `s` may have any length: the sizes are
-// compared without a sum that could wrap.
-pub fn encode(code: Code, s: &[u8], out: &mut [u8]) -> Written
-    ensures { ◌≡◌ {A = Outcome Written} (record { answer = result; memory = out.new })
-        (encoded (code_of code) s.now out.old) }
+// Writes the code words of `s` into `out`, from its first byte on; refusal 4. `s` may have any length: a slice has
+// fewer than 2 ^ 63 bytes, so that the size never wraps.
+#[tactic(auto, unfolding(crate::specs::Encoding::encoded))]
+pub fn encode(code: Code, s: &[u8], out: &mut [u8]) -> Result<usize, Refusal>
+    ensures { leaving result out.new ≡ encoded (code_of code) s.now out.old }
 {
-    let n = s.len();
-    if out.len() < n {
-        return Written::Refused(Refusal::NoRoom);
+    let size = encoded_size(code, s.len());
+    if out.len() < size {
+        return Err(Refusal::NoRoom);
     }
-    let extra = more(code, n);
-    if out.len() - n < extra {
-        return Written::Refused(Refusal::NoRoom);
-    }
-    let size = n + extra;
-    pour(code, s, size, out);
-    Written::Accepted(size)
+    pour(code, s, &mut out[..size]);
+    Ok(size)
 }

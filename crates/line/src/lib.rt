@@ -8,7 +8,7 @@ mod words; // words.rt: the one word at a chip
 mod decoding; // decoding.rt: a named number of bytes out of chips
 mod encoding; // encoding.rt: bytes into chips
 
-pub use codes::{Code, width};
-pub use decoding::{Decoded, decode};
+pub use codes::Code;
+pub use decoding::decode;
 pub use encoding::encode;
-pub use words::{Word, word_at};
+pub use words::word_at;

@@ -2,18 +2,12 @@
 --     length_added, added_at    a polynomial with a multiple of another added
 --     combined_skip, combined_part   the zeros in front are left out
 --     poly_of          a polynomial, from what makes it one
---     cleared          what is cleared by a kept polynomial
---     next_column      one column more is clear
+--     next_column      one column more is clear, with nothing there
+--     cleared          or by a kept polynomial
 -- Assumes nothing.
-use mathlib.Core.List.{List, [], ◌∷◌}
-use mathlib.Core.Logic.{⊎_elim}
-use mathlib.Core.Path.{◌≡◌, refl, sym, ap, ap₂, subst, ◌∙◌}
-use Prim.Native.Nat.{ℕ, zero, suc, ◌-◌, ◌+◌, ◌≤◌, ◌<◌}
-use native.Mathlib.Nat.{eq-or-lt_of_le}
-use native.Mathlib.Omega.{arith}
-use lib.Bits.{bit_xor, xor_self, xor_zero_r}
-use lib.ListN.{length, get_or, take, drop, length-drop}
-use lib.Seq.{take_all}
+use Rattle.std.proofs.Common.{List, [], ◌∷◌, ◌≡◌, refl, sym, ap, ap₂, subst, ◌∙◌, ℕ, zero, suc, ◌-◌, ◌+◌, ◌≤◌, ◌<◌}
+use Rattle.std.proofs.Common.{arith, below_more, bit_xor, length, get_or, take, drop, length-drop, take_all}
+use lib.Bits.{xor_self, xor_zero_r}
 use Rattle.ground.specs.Bytes.{Bytes}
 use Rattle.ground.specs.Sums.{xors}
 use Rattle.ground.proofs.SumLaws.{length-xors, bytes-xors, get_or-xors}
@@ -23,7 +17,7 @@ use Rattle.field.proofs.FieldLaws.{mul-zero_l, mul-zero_r}
 use Rattle.field.proofs.PolynomialLaws.{length_scaled, bytes_scaled, get_or_scaled}
 use Rattle.locators.specs.Combinations.{combined}
 use Rattle.locators.proofs.CombineLaws.{combined-xors, combined_scaled}
-use Rattle.locating.specs.Inner.{Slot, Cleared, Reducing, Stepped}
+use Rattle.locating.specs.Inner.{Slot, Cleared, Reducing}
 use Rattle.locating.specs.Locates.{Poly}
 
 module _ (v p : List ℕ) (f : ℕ) (same : length p ≡ length v) where
@@ -58,6 +52,11 @@ pub poly_of : {low : ℕ} {v : List ℕ} → length v ≡ 17 → Bytes v → low
     → get_or v low 0 ≡ 1 → Poly low v
 poly_of count bytes within zeros lead =
     record { count = count; bytes = bytes; within = within; zeros = zeros; lead = lead }
+
+-- with nothing left in a column, the next one is the first that may have something
+pub next_column : {s v : List ℕ} {low i : ℕ} → Reducing s low v i → combined s v i ≡ 0 → Reducing s low v (i + 1)
+next_column {s} {v} {low} {i} at z =
+    record { poly = at.poly; before = below_more (λ k. combined s v k ≡ 0) i at.before z }
 
 module _ {s v p u : List ℕ} {low i lead sum : ℕ} (at : Reducing s low v i) (kept : Slot s i low lead p)
     (clear : Cleared v p lead sum u) (here : combined s v i ≡ sum) where
@@ -97,20 +96,5 @@ module _ {s v p u : List ℕ} {low i lead sum : ℕ} (at : Reducing s low v i) (
   column_clear : combined s u i ≡ 0
   column_clear = column i ∙ ap₂ bit_xor here (ap (mul f) kept.here ∙ clear.makes) ∙ xor_self sum
 
-  pub cleared : (leads : List ℕ) → Stepped s leads low i u 0
-  cleared leads =
-      record {
-        reducing = record { poly = poly; before = before_clear };
-        here = column_clear;
-        free = λ h. absurd (omega arith);
-      }
-
--- with nothing left in a column, the next one is the first that may have something
-pub next_column : {s leads v : List ℕ} {low i x : ℕ} → Stepped s leads low i v x → x ≡ 0 → Reducing s low v (i + 1)
-next_column {s} {leads} {v} {low} {i} step z =
-    record {
-      poly = step.reducing.poly;
-      before = λ k h.
-          ⊎_elim (λ e. ap (combined s v) e ∙ step.here ∙ z) (λ l. step.reducing.before k l)
-          (eq-or-lt_of_le {n = k} {m = i} (omega arith));
-    }
+  pub cleared : Reducing s low u (i + 1)
+  cleared = next_column (record { poly = poly; before = before_clear }) column_clear

@@ -1,42 +1,43 @@
 -- The search: its state, with start, turn and end (specs/Inner).
 --     raised_at, length_raised   a polynomial times x
---     Searching        what is kept, by as many leads as the degree is, and the polynomial of this degree
---     first-reducing, no_slots   how it begins: the polynomial 1, nothing kept
+--     taken            how many polynomials are kept
+--     Searching        the state: as many are kept as the degree is, and the polynomial of this degree
+--     search_start     how it begins: the polynomial 1, nothing kept
+--     search_on        how it goes on, with one more kept
 --     found            how it ends
 -- Assumes nothing.
-use mathlib.Core.List.{List, [], ◌∷◌, ◌++◌}
-use mathlib.Core.Path.{◌≡◌, refl, sym, ap, subst, ◌∙◌}
-use Prim.Native.Nat.{ℕ, zero, suc, ◌-◌, ◌+◌, ◌≤◌, ◌<◌}
-use native.Mathlib.Omega.{arith}
-use borrow.Author.Tests.{eqb-true, eqb-false}
-use lib.Dec.{eqb}
-use lib.ListN.{length, get_or, drop, set, replicate, length-set, get_or-replicate, length-append, length-drop, get_or-eq_default}
-use lib.Seq.{get_or-set_same, get_or-set_other, get_or-drop}
+use Rattle.std.proofs.Common.{count_by, cond, is_some, Option, None, Some, List, [], ◌∷◌, ◌++◌, ◌≡◌, refl, sym, ap}
+use Rattle.std.proofs.Common.{subst, ◌∙◌, ℕ, zero, suc, ◌-◌, ◌+◌, ◌≤◌, ◌<◌, arith, eqb-true, eqb, length, get_or, drop}
+use Rattle.std.proofs.Common.{set, replicate, length-set, length-append, length-drop, get_or-set_same, get_or-set_other}
+use Rattle.std.proofs.Common.{get_or-drop}
+use borrow.Author.Tests.{eqb-false}
+use lib.ListN.{get_or-replicate, get_or-eq_default}
+use Rattle.std.proofs.lemmas.List.Sums.{count_by-le-length, sum_by-cons}
 use Rattle.ground.specs.Bytes.{Bytes}
 use Rattle.ground.proofs.ByteLaws.{bytes-nil, bytes-cons, bytes-append, bytes_drop, bytes-set}
 use Rattle.ground.proofs.CaseLaws.{by_test}
-use Rattle.field.proofs.DampLaws.{weight, weight-le}
 use Rattle.locators.specs.Combinations.{combined}
 use Rattle.locators.proofs.CombineLaws.{combined_up}
 use Rattle.locating.proofs.ReduceLaws.{combined_skip, poly_of}
-use Rattle.locating.specs.Inner.{Slot, Slots, Reducing, Reduced}
+use Rattle.locating.specs.Inner.{Slot, Slots, Reducing, Stands}
 use Rattle.locating.specs.Locates.{Poly, Locates}
+use Rattle.locating.specs.declared.reducing.Kept.{Kept}
 
--- ---- how many leads there are
+-- ---- how many are kept
 
-pub weight-set : (w : List ℕ) (i x : ℕ) → i < length w → get_or w i 0 ≡ 0 → 0 < x → weight (set w i x) ≡ suc (weight w)
-unfolding weight
-weight-set [] i x h z pos = absurd (omega arith)
-weight-set (zero ∷ w) zero zero h z pos = absurd (omega arith)
-weight-set (zero ∷ w) zero (suc x) h z pos = refl
-weight-set (suc y ∷ w) zero x h z pos = absurd (omega arith)
-weight-set (zero ∷ w) (suc i) x h z pos = weight-set w i x (omega arith) z pos
-weight-set (suc y ∷ w) (suc i) x h z pos = ap suc (weight-set w i x (omega arith) z pos)
+abbrev pub taken : List (Option Kept) → ℕ
+taken kept = count_by is_some kept
 
-pub weight-replicate : (n : ℕ) → weight (replicate n 0) ≡ 0
-unfolding weight
-weight-replicate zero = refl
-weight-replicate (suc n) = weight-replicate n
+taken-cons : (o : Option Kept) (kept : List (Option Kept)) → taken (o ∷ kept) ≡ cond (is_some o) 1 0 + taken kept
+taken-cons o kept = sum_by-cons (λ (k : Option Kept). cond (is_some k) 1 0) o kept
+
+taken-set : (kept : List (Option Kept)) (i : ℕ) (k : Kept) → i < length kept → get_or kept i None ≡ None
+    → taken (set kept i (Some k)) ≡ suc (taken kept)
+taken-set [] i k h free = absurd (omega arith)
+taken-set (None ∷ kept) zero k h free = omega (arith, taken-cons (Some k) kept, taken-cons None kept)
+taken-set (Some o ∷ kept) zero k h free = cc
+taken-set (o ∷ kept) (suc i) k h free =
+    omega (arith, taken-cons o (set kept i (Some k)), taken-cons o kept, taken-set kept i k (omega arith) free)
 
 -- ---- times x
 
@@ -95,79 +96,85 @@ slot_of count bytes zeros before here =
 lower : {s p : List ℕ} {i low lead : ℕ} → Slot s i low lead p → Slot s i (low - 1) lead p
 lower k = slot_of k.count k.bytes (λ t h. k.zeros t (omega arith)) k.before k.here
 
-module _ {s leads v : List ℕ} {rows : List (List ℕ)} {low i x : ℕ} (slots : Slots s rows leads low)
-    (at : Reduced s leads low v i x) (inside : i < 16) (more : 0 < low) where
+module _ {s v : List ℕ} {kept : List (Option Kept)} {low i x : ℕ} (slots : Slots s kept low)
+    (at : Reducing s low v i) (stands : Stands s kept v i x) (more : 0 < low) where
+  abbrev new : Kept
+  new = record { row = v; lead = x }
+
   new_slot : Slot s i (low - 1) x v
   new_slot =
-      let p = at.reducing.poly in
-      slot_of p.count p.bytes (λ t h. p.zeros t (omega arith)) at.reducing.before (at.here inside)
+      let p = at.poly in
+      slot_of p.count p.bytes (λ t h. p.zeros t (omega arith)) at.before stands.here
 
-  new_at : (k : ℕ) → k ≡ i → Slot s k (low - 1) (get_or (set leads i x) k 0) (get_or (set rows i v) k [])
-  new_at k e =
-      subst (λ (j : ℕ). Slot s j (low - 1) (get_or (set leads i x) j 0) (get_or (set rows i v) j [])) (sym e)
-      (subst (λ (l : ℕ). Slot s i (low - 1) l (get_or (set rows i v) i []))
-      (sym (get_or-set_same leads i x 0 (omega (arith, slots.leads_count))))
-      (subst (Slot s i (low - 1) x) (sym (get_or-set_same rows i v [] (omega (arith, slots.rows_count)))) new_slot))
+  new_at : (j : ℕ) → j ≡ i → (k : Kept) → get_or (set kept i (Some new)) j None ≡ Some k
+      → (0 < k.lead) × Slot s j (low - 1) k.lead k.row
+  new_at j e k is =
+      let same : get_or (set kept i (Some new)) i None ≡ Some new
+      = get_or-set_same kept i (Some new) None (omega (arith, slots.count, stands.within)) in
+      let k_is : new ≡ k = cc in
+      subst (λ (n : ℕ). (0 < k.lead) × Slot s n (low - 1) k.lead k.row) (sym e)
+      (subst (λ (m : Kept). (0 < m.lead) × Slot s i (low - 1) m.lead m.row) k_is (stands.some, new_slot))
 
-  old_at : (k : ℕ) → k < 16 → (k ≡ i → ⊥) → 0 < get_or (set leads i x) k 0
-      → Slot s k (low - 1) (get_or (set leads i x) k 0) (get_or (set rows i v) k [])
-  old_at k low-k other pos =
-      let el = get_or-set_other leads i k x 0 other in
-      let er = get_or-set_other rows i k v [] other in
-      subst (λ (l : ℕ). Slot s k (low - 1) l (get_or (set rows i v) k [])) (sym el)
-      (subst (Slot s k (low - 1) (get_or leads k 0)) (sym er) (lower (slots.slot k low-k (omega (arith, el)))))
+  old_at : (j : ℕ) → j < 16 → (j ≡ i → ⊥) → (k : Kept) → get_or (set kept i (Some new)) j None ≡ Some k
+      → (0 < k.lead) × Slot s j (low - 1) k.lead k.row
+  old_at j low-j other k is =
+      let old = slots.slot j low-j k (sym (get_or-set_other kept i j (Some new) None other) ∙ is) in
+      (old.0, lower old.1)
 
-  pub slots_more : Slots s (set rows i v) (set leads i x) (low - 1)
+  pub slots_more : Slots s (set kept i (Some new)) (low - 1)
   slots_more =
       record {
-        rows_count = length-set rows i v ∙ slots.rows_count;
-        leads_count = length-set leads i x ∙ slots.leads_count;
-        slot = λ k h pos.
-            by_test (eqb k i) (λ t. new_at k (eqb-true k i t)) (λ t. old_at k h (eqb-false k i t) pos);
+        count = length-set kept i (Some new) ∙ slots.count;
+        slot = λ j h k is.
+            by_test (eqb j i) (λ t. new_at j (eqb-true j i t) k is) (λ t. old_at j h (eqb-false j i t) k is);
       }
 
 -- ---- the search
 
-pub record Searching (s : List ℕ) (rows : List (List ℕ)) (leads : List ℕ) (low : ℕ) (v : List ℕ) (i x : ℕ) : Type 0
-  where
-    pub slots : Slots s rows leads low
-    pub kept : weight leads + low ≡ 16
-    pub reduced : Reduced s leads low v i x
+pub record Searching (s : List ℕ) (kept : List (Option Kept)) (low : ℕ) (v : List ℕ) (i : ℕ) : Type 0 where
+  pub slots : Slots s kept low
+  pub count : taken kept + low ≡ 16
+  pub within : i ≤ 16
+  pub reducing : Reducing s low v i
 
-module _ {s leads v : List ℕ} {rows : List (List ℕ)} {low i x : ℕ} (at : Searching s rows leads low v i x) where
-  module _ (inside : i < 16) where
-    heavier : weight (set leads i x) ≡ suc (weight leads)
-    heavier =
-        let r = at.reduced in
-        weight-set leads i x (omega (arith, at.slots.leads_count)) (r.free inside) (r.some inside)
+module _ {s v : List ℕ} {kept : List (Option Kept)} {low i x : ℕ} (slots : Slots s kept low)
+    (count : taken kept + low ≡ 16) (at : Reducing s low v i) (stands : Stands s kept v i x) where
+  abbrev more : Kept
+  more = record { row = v; lead = x }
 
-    pub more_left : 0 < low
-    more_left =
-        omega (arith, heavier, weight-le (set leads i x), length-set leads i x, at.slots.leads_count, at.kept)
+  abbrev added : List (Option Kept)
+  added = set kept i (Some more)
 
-    pub kept_slots : Slots s (set rows i v) (set leads i x) (low - 1)
-    kept_slots = slots_more at.slots at.reduced inside more_left
+  heavier : taken added ≡ suc (taken kept)
+  heavier = taken-set kept i more (omega (arith, slots.count, stands.within)) stands.free
 
-    pub next-reducing : {u : List ℕ} {k : ℕ} → u ≡ raised v → k ≡ i - 1 → Reducing s (low - 1) u k
-    next-reducing {u} {k} eu ek =
-        let r = raised-reducing at.reduced.reducing more_left in
-        subst (λ (l : List ℕ). Reducing s (low - 1) l k) (sym eu) (subst (Reducing s (low - 1) (raised v)) (sym ek) r)
+  pub more_left : 0 < low
+  more_left =
+      omega (arith, heavier, count_by-le-length is_some added, length-set kept i (Some more), slots.count, count)
 
-    pub search_on : {u : List ℕ} {k y : ℕ} → Reduced s (set leads i x) (low - 1) u k y
-        → Searching s (set rows i v) (set leads i x) (low - 1) u k y
-    search_on r =
-        record { slots = kept_slots; kept = omega (arith, heavier, more_left, at.kept); reduced = r }
+  next-reducing : {u : List ℕ} {k n : ℕ} → u ≡ raised v → k ≡ i - 1 → n ≡ low - 1 → Reducing s n u k
+  next-reducing {u} {k} {n} eu ek en =
+      subst (λ (m : ℕ). Reducing s m u k) (sym en)
+      (subst (λ (l : List ℕ). Reducing s (low - 1) l k) (sym eu)
+      (subst (Reducing s (low - 1) (raised v)) (sym ek) (raised-reducing at more_left)))
 
+  pub search_on : {u : List ℕ} {k n : ℕ} → u ≡ raised v → k ≡ i - 1 → n ≡ low - 1 → Searching s added n u k
+  search_on {u} {k} {n} eu ek en =
+      record {
+        slots = subst (Slots s added) (sym en) (slots_more slots at stands more_left);
+        count = omega (arith, heavier, more_left, count);
+        within = omega (arith, stands.within);
+        reducing = next-reducing eu ek en;
+      }
+
+module _ {s v : List ℕ} {low i : ℕ} (at : Reducing s low v i) where
   poly_by_degree : Poly (16 - (16 - low)) v
   poly_by_degree =
-      let p = at.reduced.reducing.poly in
-      let e : low ≡ 16 - (16 - low) = omega (arith, p.within) in
-      subst (λ (k : ℕ). Poly k v) e p
+      let e : low ≡ 16 - (16 - low) = omega (arith, at.poly.within) in
+      subst (λ (k : ℕ). Poly k v) e at.poly
 
   pub found : 16 ≤ i → Locates s v (16 - low)
-  found all =
-      let r = at.reduced.reducing in
-      record { degree = omega arith; poly = poly_by_degree; all = λ k h. r.before k (omega arith) }
+  found all = record { degree = omega arith; poly = poly_by_degree; all = λ k h. at.before k (omega arith) }
 
 -- ---- how it begins
 
@@ -186,17 +193,16 @@ one_zeros t h =
 one_poly : Poly 16 one
 one_poly = poly_of refl (bytes-set (replicate 17 0) 16 1 (bytes_zeros 17) (omega arith)) (omega arith) one_zeros refl
 
-pub first-reducing : (s : List ℕ) → Reducing s 16 (set (replicate 17 0) 16 1) 0
-first-reducing s = record { poly = one_poly; before = λ k h. absurd (omega arith) }
+none_kept : (i : ℕ) (k : Kept) → i < 16 → get_or (replicate {A = Option Kept} 16 None) i None ≡ Some k → ⊥
+none_kept i k h is =
+    let none : get_or (replicate {A = Option Kept} 16 None) i None ≡ None = get_or-replicate 16 i None None h in
+    cc
 
-pub no_slots : (s : List ℕ) → Slots s (replicate 16 (replicate 17 0)) (replicate 16 0) 16
-no_slots s =
+pub search_start : (s : List ℕ) → Searching s (replicate 16 None) 16 one 0
+search_start s =
     record {
-      rows_count = refl;
-      leads_count = refl;
-      slot = λ i h pos. absurd (omega (arith, get_or-replicate {A = ℕ} 16 i 0 0 h));
+      slots = record { count = refl; slot = λ i h k is. absurd (none_kept i k h is) };
+      count = refl;
+      within = omega arith;
+      reducing = record { poly = one_poly; before = λ k h. absurd (omega arith) };
     }
-
-pub search_start : {s v : List ℕ} {i x : ℕ} → Reduced s (replicate 16 0) 16 v i x
-    → Searching s (replicate 16 (replicate 17 0)) (replicate 16 0) 16 v i x
-search_start {s} r = record { slots = no_slots s; kept = omega (arith, weight-replicate 16); reduced = r }

@@ -3,7 +3,9 @@
 
 #![tactic(auto)]
 
+mod locator; // locator.rt: a polynomial and its degree
 mod reducing; // reducing.rt: a polynomial made to combine one more of the values to 0
 mod searching; // searching.rt: polynomials of one degree after the other, until one combines all to 0
 
-pub use searching::{Locator, locate};
+pub use locator::Locator;
+pub use searching::locate;

@@ -3,12 +3,9 @@
 --     located      at most 16 bytes are not 0: it is 0 at the locator of each
 --     alone_value  0 at the locators of all but one: the combined values are that byte's alone
 -- Assumes nothing.
-use mathlib.Core.Path.{◌≡◌, refl, sym, ap, ◌∙◌}
-use mathlib.Core.List.{List}
-use mathlib.Core.Logic.{◌⊎◌, inl, inr, ⊎_elim}
-use Prim.Native.Nat.{ℕ, zero, suc, ◌+◌, ◌-◌, ◌*◌, ◌<◌, ◌≤◌}
-use native.Mathlib.Omega.{arith}
-use lib.ListN.{length, get_or, get_or-replicate}
+use Rattle.std.proofs.Common.{◌≡◌, refl, sym, ap, ◌∙◌, List, ◌⊎◌, inl, inr, ⊎_elim, ℕ, zero, suc, ◌+◌, ◌-◌, ◌*◌, ◌<◌}
+use Rattle.std.proofs.Common.{◌≤◌, arith, length, get_or}
+use lib.ListN.{get_or-replicate}
 use Rattle.ground.specs.Bytes.{Bytes}
 use Rattle.field.specs.Field.{mul}
 use Rattle.field.specs.Polynomials.{value_at}

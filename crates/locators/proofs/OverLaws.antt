@@ -10,13 +10,9 @@
 --     eval_first        a value, from that of the first coefficient
 --     value_over        the value of a word at a power of g is such a sum
 -- Assumes nothing.
-use mathlib.Core.Path.{◌≡◌, refl, sym, ap, ap₂, ◌∙◌}
-use mathlib.Core.List.{List, [], ◌∷◌}
-use Prim.Native.Nat.{ℕ, zero, suc, ◌+◌, ◌-◌, ◌*◌, ◌<◌}
-use native.Mathlib.Nat.{mul-zero}
-use native.Mathlib.Omega.{arith}
-use lib.Bits.{bit_xor, xor_lt, xor_zero_r}
-use lib.ListN.{length, get_or, set, length-set}
+use Rattle.std.proofs.Common.{◌≡◌, refl, sym, ap, ap₂, ◌∙◌, List, [], ◌∷◌, ℕ, zero, suc, ◌+◌, ◌-◌, ◌*◌, ◌<◌, mul-zero}
+use Rattle.std.proofs.Common.{arith, bit_xor, length, get_or, set, length-set}
+use lib.Bits.{xor_lt, xor_zero_r}
 use Rattle.ground.specs.Bytes.{Bytes}
 use Rattle.ground.proofs.XorLaws.{xor_swap, xor_assoc, xor_last}
 use Rattle.field.specs.Field.{mul, alpha_to}

@@ -7,13 +7,9 @@
 --     quotient-zero                      so where the polynomial is 0 at r and at another element, the quotient is 0
 --                                        at this
 -- Assumes nothing.
-use mathlib.Core.Path.{◌≡◌, refl, sym, ap, ap₂, ◌∙◌}
-use mathlib.Core.List.{List, [], ◌∷◌, ◌++◌}
-use Prim.Native.Nat.{ℕ, suc, ◌<◌}
-use native.Mathlib.Nat.{pos_of_ne-zero}
-use native.Mathlib.Omega.{arith}
-use lib.Bits.{bit_xor, xor_lt, xor_self, xor_zero_r}
-use lib.ListN.{length, get_or}
+use Rattle.std.proofs.Common.{◌≡◌, refl, sym, ap, ap₂, ◌∙◌, List, [], ◌∷◌, ◌++◌, ℕ, suc, ◌<◌, pos_of_ne-zero, arith}
+use Rattle.std.proofs.Common.{bit_xor, length, get_or}
+use lib.Bits.{xor_lt, xor_self, xor_zero_r}
 use Rattle.ground.specs.Bytes.{Bytes}
 use Rattle.ground.proofs.ByteLaws.{bytes-nil, bytes-cons}
 use Rattle.ground.proofs.XorLaws.{xor_swap, xor_assoc, xor_cancel_r, xor_equal}

@@ -1,4 +1,3 @@
 pub mod LocateLaws
 pub mod WordLaws
 pub mod MendLaws
-pub mod PutLaws

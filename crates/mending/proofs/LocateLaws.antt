@@ -11,9 +11,9 @@ use Prim.Native.Nat.{ℕ, ◌+◌, ◌-◌, ◌*◌, ◌/◌, ◌%◌, ◌≤◌
 use native.Mathlib.Nat.{add-mul-mod_self_left, mod-eq_of_lt}
 use native.Mathlib.Omega.{arith}
 use lib.ListN.{get_or}
-use Rattle.ground.specs.Bytes.{Bytes}
+use Rattle.std.specs.Prelude.{Some, None}
 use Rattle.field.specs.Field.{mul, alpha_to}
-use Rattle.field.proofs.PowerLaws.{alpha_to-add, alpha_to-mod, power_cancel}
+use Rattle.field.proofs.PowerLaws.{alpha_to-lt, alpha_to-add, alpha_to-mod, power_cancel}
 use Rattle.field.proofs.PrimitiveLaws.{log, log-lt, alpha_to_log}
 use Rattle.products.specs.Tables.{TablesOk}
 use Rattle.mending.specs.Inner.{Locates}
@@ -78,34 +78,30 @@ module _ {powers logs : List ℕ} (ok : TablesOk powers logs) where
         → x ≡ mul e (alpha_to (11 * (112 + 0) * p)) → y ≡ mul e (alpha_to (11 * (112 + 1) * p)) → ⊥
 
     -- no byte is wrong in this way
-    locates_nothing : 0 < n → ((e p : ℕ) → Wrong e p) → Locates x y n (record { place = 0; error = 0 })
-    locates_nothing some never =
-        record {
-          inside = some;
-          byte = omega arith;
-          none = λ e. refl;
-          one = λ e p a b c d f g. absurd (never e p a b c d f g);
-        }
+    locates_nothing : ((e p : ℕ) → Wrong e p) → Locates x y n None
+    locates_nothing never =
+        record { inside = tt; none = λ e. refl; one = λ e p a b c d f g. absurd (never e p a b c d f g) }
 
-    pub locates_none : 0 < n → x ≡ 0 → Locates x y n (record { place = 0; error = 0 })
-    locates_none some z =
-        locates_nothing some
-        (λ e p pos byte inside most first second. value_positive e _ pos byte (sym first ∙ z))
+    pub locates_none : x ≡ 0 → Locates x y n None
+    locates_none z =
+        locates_nothing (λ e p pos byte inside most first second. value_positive e _ pos byte (sym first ∙ z))
 
-    pub locates_outside : 0 < n → n ≤ behind → Locates x y n (record { place = 0; error = 0 })
-    locates_outside some out =
-        locates_nothing some
+    pub locates_outside : n ≤ behind → Locates x y n None
+    locates_outside out =
+        locates_nothing
         (λ e p pos byte inside most first second. omega (arith, behind_is e p pos byte inside most first second))
 
-    pub locates_there : (x ≡ 0 → ⊥) → behind < n → Bytes powers
-        → Locates x y n (record { place = n - 1 - behind; error = error })
-    locates_there not there bytes =
+    error_small : error < 256
+    error_small = rw (ok.power ((get_or logs x 0 + 255 - 212 * behind % 255) % 255) (omega arith)) (alpha_to-lt _)
+
+    pub locates_there : (x ≡ 0 → ⊥) → behind < n
+        → Locates x y n (Some (record { place = n - 1 - behind; error = error }))
+    locates_there not there =
         record {
-          inside = omega arith;
-          byte = bytes ((get_or logs x 0 + 255 - 212 * behind % 255) % 255);
+          inside = (omega arith, error_small);
           none = λ e. absurd (not e);
-          one = λ e p pos byte inside most first second. (
-            omega (arith, behind_is e p pos byte inside most first second),
-            error_is e p pos byte inside most first second,
-          );
+          one = λ e p pos byte inside most first second.
+              ap₂ (λ (i v : ℕ). Some (record { place = i; error = v }))
+              (omega (arith, behind_is e p pos byte inside most first second))
+              (error_is e p pos byte inside most first second);
         }

@@ -1,29 +1,37 @@
 -- Words compared, and the test of a code word.
---     Counting          n bytes differ before place i: the invariant of the count, with its start, turn and end
---     fresh_checks      what the writer of check bytes leaves
+--     count_apart, apart-le    how many bytes differ, as the code counts them: at most as many as there are
 --     code_tested       fresh check bytes differ nowhere from those that stand there exactly where the word is a code
 --                       word
---     remainder_made    their sum with those that stand there
---     words_differ, words_few   two words compared in two parts
---     part_tested       the test of the first bytes of a proposal
+--     code_compared     and so they do where the two are compared at once
+--     clean_tested      and so is their sum with those 0
+--     sum_next, sum_end    that sum, in place
+--     words_differ      two words compared in two parts
 -- Assumes nothing.
-use mathlib.Core.Bool.{Bool, true, false, cond, false≢true}
-use mathlib.Core.List.{List, ◌++◌, append-nil}
+use mathlib.Core.Bool.{Bool, true, false, cond}
+use mathlib.Core.List.{List, [], ◌∷◌, ◌++◌, append-nil}
 use mathlib.Core.Path.{◌≡◌, refl, sym, ap, ap₂, ◌∙◌}
 use Prim.Native.Nat.{ℕ, ◌+◌, ◌-◌, ◌≤◌, ◌<◌}
-use native.Mathlib.Nat.{zero-add, add-zero}
-use native.Mathlib.Numerals.{add-one}
 use native.Mathlib.Omega.{arith}
-use borrow.Author.Tests.{eq-eqb, ne_eqb}
+use borrow.Author.Tests.{eq-eqb}
 use lib.Dec.{eqb}
-use lib.ListN.{length, get_or, take, drop, length-drop, take-append-drop, drop_of_length-le}
-use lib.Seq.{drop-cons, length-take-le, take_all, take-add}
-use Rattle.answers.specs.Outcome.{Outcome}
-use Rattle.answers.specs.declared.Written.{Written}
+use Rattle.std.proofs.Common.{Result, get_or-drop}
+use Rattle.std.specs.Prelude.{◌==◌, not, count_by, zip}
+use Rattle.std.specs.Cmp.Lexicographic.{pointwise}
+use Rattle.std.proofs.lemmas.Bool.{eqb-true}
+use Rattle.std.proofs.lemmas.Bool.Decides.{Decides-eqb, same_from_decides}
+use Rattle.std.proofs.lemmas.List.Sums.{sum_by-cons}
+use Rattle.std.proofs.lemmas.Slice.Eq.{slice_eq-Decides}
+use lib.Bits.{bit_xor, xor_comm}
+use lib.ListN.{length, get_or, take, drop, set, length-drop, take-append-drop, drop_of_length-le, replicate}
+use lib.Seq.{length-take-le, take_all, take-add}
+use Rattle.answers.specs.Outcome.{Outcome, leaving}
+use Rattle.answers.specs.declared.Refusal.{Refusal}
 use Rattle.ground.specs.Apart.{apart}
 use Rattle.ground.specs.Bytes.{Bytes}
 use Rattle.ground.specs.Sums.{xors}
-use Rattle.ground.proofs.ApartLaws.{apart_self, apart-zero, apart-append}
+use Rattle.ground.proofs.ApartLaws.{first_most, apart_self, apart-zero, apart-append}
+use Rattle.ground.proofs.InPlaceLaws.{elements, InPlace, in_place_next, in_place_end}
+use Rattle.ground.proofs.SumLaws.{length-xors, xors_self, xors_equal, get_or-xors}
 use Rattle.ground.proofs.ByteLaws.{bytes_take, bytes_drop}
 use Rattle.codewords.specs.CheckBytes.{checks_of}
 use Rattle.codewords.specs.Corrections.{checking_of}
@@ -35,35 +43,23 @@ use Rattle.proposals.proofs.CodeLaws.{is_code_block_code, code-is_code_block, ch
 
 -- ---- the count
 
-pub record Counting (u v : List ℕ) (n i : ℕ) : Type 0 where
-  pub within : i ≤ length u
-  pub few : n ≤ i
-  pub sum : n + apart (drop i u) (drop i v) ≡ apart u v
+one_apart : (t : Bool) → ◌≡◌ {A = ℕ} (cond (not t) 1 0) (cond t 0 1)
+one_apart true = refl
+one_apart false = refl
 
-module _ (u v : List ℕ) where
-  pub counting_start : Counting u v 0 0
-  counting_start = record { within = omega arith; few = omega arith; sum = zero-add (apart u v) }
+pub count_apart : (u v : List ℕ) → count_by (λ (p : ℕ × ℕ). not (p.0 == p.1)) (zip u v) ≡ apart u v
+unfolding apart
+count_apart [] v = refl
+count_apart (x ∷ u) [] = refl
+count_apart (x ∷ u) (y ∷ v) =
+    sum_by-cons {X = ℕ × ℕ} (λ p. cond (not (p.0 == p.1)) 1 0) (x, y) (zip u v)
+    ∙ ap₂ ◌+◌ (one_apart (eqb x y)) (count_apart u v)
 
-  apart-drop : (i : ℕ) → i < length u → i < length v
-      → apart (drop i u) (drop i v)
-      ≡ cond (eqb (get_or u i 0) (get_or v i 0)) 0 1 + apart (drop (i + 1) u) (drop (i + 1) v)
-  unfolding apart
-  apart-drop i hu hv = rw (add-one, drop-cons u i 0, drop-cons v i 0)
-
-  pub counting_next : {n i r : ℕ} → length u ≡ length v → Counting u v n i → i < length u
-      → r ≡ cond (eqb (get_or u i 0) (get_or v i 0)) 0 1 → r ≤ 1 → Counting u v (n + r) (i + 1)
-  counting_next {n} {i} {r} e c h is one =
-      record {
-        within = omega arith;
-        few = omega (arith, c.few);
-        sum = omega (arith, c.sum, apart-drop i h (omega arith), is);
-      }
-
-  pub counting_end : {n i : ℕ} → Counting u v n i → length u ≤ i → n ≡ apart u v
-  unfolding apart
-  counting_end {n} {i} c h =
-      let none : n + apart (drop i u) (drop i v) ≡ n = rw (drop_of_length-le u h) (add-zero n) in
-      sym none ∙ c.sum
+pub apart-le : (u v : List ℕ) → apart u v ≤ length u
+unfolding apart
+apart-le [] v = omega arith
+apart-le (x ∷ u) [] = omega arith
+apart-le (x ∷ u) (y ∷ v) = omega (arith, apart-le u v, first_most x y u v)
 
 -- ---- the test of a code word
 
@@ -81,76 +77,82 @@ module _ (w : List ℕ) (end : ℕ) (bytes : Bytes w) (size : end + 32 ≡ lengt
       code-is_code_block w
       (rw (take-append-drop end w) at (checks_code (take end w) {c = drop end w} (bytes_take end w bytes) e))
 
-  tested : {d : ℕ} → d ≡ apart (drop end w) (checks_of (take end w)) → eqb d 0 ≡ is_code_block w
-  tested {d} is = by (is_code_block w) refl
-    where
-      by : (t : Bool) → is_code_block w ≡ t → eqb d 0 ≡ t
-      by true t =
-          eq-eqb d 0 (is ∙ ap (apart (drop end w)) (sym (checks_here t)) ∙ apart_self (drop end w))
-      by false t =
-          ne_eqb d 0
-          (λ z. let same = length_end ∙ sym (length-checks_of (take end w)) in
-          let e = apart-zero (drop end w) (checks_of (take end w)) same (omega (arith, is, z)) in
-          false≢true (sym t ∙ here_code e))
-
-  -- what the writer of check bytes leaves in 32 bytes of memory
-  pub fresh_checks : {a : Written} {m : List ℕ} (d : List ℕ) → length d ≡ 32 → end ≤ 223
-      → ◌≡◌ {A = Outcome Written} (record { answer = a; memory = m }) (checking_of (take (end - 0) w) d)
-      → m ≡ checks_of (take end w)
-  fresh_checks {a} {m} d room most e =
-      let all : end - 0 ≡ end = omega arith in
-      let long : length (take (end - 0) w) ≤ 223 = rw (all, length-take-le end w (omega arith)) most in
-      let c = checks_of (take (end - 0) w) in
-      ap (λ (o : Outcome Written). o.memory) (e ∙ checking_done (take (end - 0) w) d long (omega arith))
-      ∙ ap (λ (l : List ℕ). c ++ l) (drop_of_length-le d {i = 32} (omega arith)) ∙ append-nil c
-      ∙ ap (λ (k : ℕ). checks_of (take k w)) all
-
-  pub tail_part : take (length w - end) (drop end w) ≡ drop end w
+  tail_part : take (length w - end) (drop end w) ≡ drop end w
   tail_part = take_all (length w - end) (drop end w) (omega (arith, length-drop end w))
 
-  pub code_tested : {n : ℕ} {a : Written} {m : List ℕ} (d : List ℕ) → length d ≡ 32 → end ≤ 223
-      → ◌≡◌ {A = Outcome Written} (record { answer = a; memory = m }) (checking_of (take (end - 0) w) d)
-      → n ≡ apart (take (length w - end) (drop end w)) m → eqb n 0 ≡ is_code_block w
-  code_tested d room most made is = tested (is ∙ ap₂ apart tail_part (fresh_checks d room most made))
+  same_length : length (drop end w) ≡ length (checks_of (take end w))
+  same_length = length_end ∙ sym (length-checks_of (take end w))
 
-  -- the check bytes that stand there, added to these
-  pub remainder_made : {a : Written} {m r : List ℕ} (d : List ℕ) → length d ≡ 32 → end ≤ 223
-      → ◌≡◌ {A = Outcome Written} (record { answer = a; memory = m }) (checking_of (take (end - 0) w) d)
-      → r ≡ xors (take (length w - end) (drop end w)) m → r ≡ xors (drop end w) (checks_of (take end w))
-  remainder_made d room most made is = is ∙ ap₂ xors tail_part (fresh_checks d room most made)
+  -- what the writer of check bytes leaves in 32 bytes of memory
+  fresh_checks : {a : Result ℕ Refusal} {m : List ℕ} (d : List ℕ) → length d ≡ 32 → end ≤ 223
+      → leaving a m ≡ checking_of (take end w) d → m ≡ checks_of (take end w)
+  fresh_checks d room most e =
+      let c = checks_of (take end w) in
+      let long = checking_done (take end w) d (rw (length-take-le end w (omega arith)) most) (omega arith) in
+      ap (λ (o : Outcome (Result ℕ Refusal)). o.memory) (e ∙ long)
+      ∙ ap (λ (l : List ℕ). c ++ l) (drop_of_length-le d {i = 32} (omega arith)) ∙ append-nil c
+
+  none_apart : {n : ℕ} → n ≡ apart (drop end w) (checks_of (take end w)) → eqb n 0 ≡ is_code_block w
+  none_apart {n} is =
+      let c = checks_of (take end w) in
+      same_from_decides (eqb n 0) (is_code_block w) (
+        λ t. apart-zero (drop end w) c same_length (omega (arith, is, eqb-true n 0 t)),
+        λ e. eq-eqb n 0 (is ∙ ap (apart (drop end w)) (sym e) ∙ apart_self (drop end w)),
+      )
+      (checks_here, here_code)
+
+  pub code_tested : {n : ℕ} {a : Result ℕ Refusal} {m : List ℕ} (d : List ℕ) → length d ≡ 32 → end ≤ 223
+      → leaving a m ≡ checking_of (take (end - 0) w) d
+      → n ≡ apart (take (length w - end) (drop end w)) m → eqb n 0 ≡ is_code_block w
+  code_tested d room most made is =
+      let all : end - 0 ≡ end = omega arith in
+      none_apart (is ∙ ap₂ apart tail_part (fresh_checks d room most (rw all at made)))
+
+  pub code_compared : {r : Bool} {m : List ℕ} → m ≡ checks_of (take end w)
+      → r ≡ pointwise eqb (take (length w - end) (drop end w)) m → r ≡ is_code_block w
+  code_compared {r} fresh is =
+      let same = is ∙ ap₂ (pointwise eqb) tail_part fresh in
+      same_from_decides r (is_code_block w) (slice_eq-Decides Decides-eqb _ _ r same) (checks_here, here_code)
+
+  none_left : is_code_block w ≡ true → xors (drop end w) (checks_of (take end w)) ≡ replicate 32 0
+  none_left t =
+      ap (λ (l : List ℕ). xors l (checks_of (take end w))) (checks_here t) ∙ xors_self (checks_of (take end w))
+      ∙ ap (λ (n : ℕ). replicate n 0) (length-checks_of (take end w))
+
+  left_none : xors (drop end w) (checks_of (take end w)) ≡ replicate 32 0 → is_code_block w ≡ true
+  left_none e =
+      here_code (xors_equal _ _ same_length (e ∙ ap (λ (n : ℕ). replicate n 0) (sym length_end)))
+
+  pub clean_tested : {r : Bool} {m : List ℕ} → m ≡ xors (drop end w) (checks_of (take end w))
+      → r ≡ pointwise eqb m (replicate 32 0) → r ≡ is_code_block w
+  clean_tested {r} made is =
+      let same = is ∙ ap (λ (l : List ℕ). pointwise eqb l (replicate 32 0)) made in
+      same_from_decides r (is_code_block w) (slice_eq-Decides Decides-eqb _ _ r same) (none_left, left_none)
+
+-- ---- the remainder, added in place
+
+pub sum_next : (w v : List ℕ) (end : ℕ) {d : List ℕ} {i : ℕ} → length (drop end w) ≡ length v
+    → InPlace (elements (xors (drop end w) v)) v d i → i < length v
+    → InPlace (elements (xors (drop end w) v)) v (set d i (bit_xor (get_or d i 0) (get_or w (end + i) 0))) (i + 1)
+sum_next w v end {d} {i} same p h =
+    in_place_next _ _ p h
+    (ap₂ bit_xor (p.left i (omega arith)) (sym (get_or-drop end w i 0))
+    ∙ xor_comm (get_or v i 0) (get_or (drop end w) i 0) ∙ sym (get_or-xors (drop end w) v i same))
+
+pub sum_end : (w v : List ℕ) (end : ℕ) {d : List ℕ} {i : ℕ} → length (drop end w) ≡ length v
+    → InPlace (elements (xors (drop end w) v)) v d i → length v ≤ i → d ≡ xors (drop end w) v
+sum_end w v end same p h = in_place_end p (length-xors (drop end w) v same ∙ same) h
 
 -- ---- two words compared in two parts, as the code cuts them
 
-module _ (p s : List ℕ) (z : ℕ) (most : z ≤ 223) (whole : z + 32 ≤ length p) (there : z + 34 ≤ length s) where
-  abbrev frame_in : List ℕ → List ℕ
-  frame_in l = take (z - 0) l
-
-  abbrev checks_from : ℕ → List ℕ → List ℕ
-  checks_from at l = take (at + 32 - at) (drop at l)
-
-  pub words_differ : {a b : ℕ} → a ≡ apart (frame_in s) (frame_in p)
-      → b ≡ apart (checks_from (z + 2) s) (checks_from z p) → a + b ≡ apart (received z s) (take (z + 32) p)
-  words_differ ea eb =
-      let all : z - 0 ≡ z = omega arith in
-      let here : z + 32 - z ≡ 32 = omega arith in
-      let behind : z + 2 + 32 - (z + 2) ≡ 32 = omega arith in
-      let same : length (take z s) ≡ length (take z p) =
-      length-take-le z s (omega arith) ∙ sym (length-take-le z p (omega arith)) in
-      ap₂ ◌+◌ (rw all at ea) (rw (here, behind) at eb) ∙ sym (apart-append (take z s) (take z p) _ _ same)
-      ∙ ap (apart (received z s)) (sym (take-add z 32 p))
-
-  pub words_few : {a b : ℕ} → a ≤ length (frame_in s) → b ≤ length (checks_from (z + 2) s) → a + b ≤ 255
-  words_few ha hb =
-      omega (
-        arith,
-        length-take-le (z - 0) s (omega arith),
-        length-take-le (z + 2 + 32 - (z + 2)) (drop (z + 2) s) (omega (arith, length-drop (z + 2) s)),
-      )
-
--- ---- the test of the first z + 32 bytes
-
-pub part_tested : (z : ℕ) (p : List ℕ) {t u : Bool} → t ≡ is_code_block (take (z + 32 - 0) p) → t ≡ u
-    → is_code_block (take (z + 32) p) ≡ u
-part_tested z p e is =
-    let all : z + 32 - 0 ≡ z + 32 = omega arith in
-    ap (λ (k : ℕ). is_code_block (take k p)) (sym all) ∙ sym e ∙ is
+pub words_differ :
+    (p s : List ℕ) (z : ℕ) → z ≤ 223 → z + 32 ≤ length p → z + 34 ≤ length s → {a b : ℕ}
+    → a ≡ apart (take z s) (take z p)
+    → b ≡ apart (take (z + 2 + 32 - (z + 2)) (drop (z + 2) s)) (take (z + 32 - z) (drop z p))
+    → a + b ≡ apart (received z s) (take (z + 32) p)
+words_differ p s z most whole there ea eb =
+    let here : z + 32 - z ≡ 32 = omega arith in
+    let behind : z + 2 + 32 - (z + 2) ≡ 32 = omega arith in
+    let same = length-take-le z s (omega arith) ∙ sym (length-take-le z p (omega arith)) in
+    ap₂ ◌+◌ ea (rw (here, behind) at eb) ∙ sym (apart-append (take z s) (take z p) _ _ same)
+    ∙ ap (apart (received z s)) (sym (take-add z 32 p))

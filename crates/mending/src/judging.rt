@@ -4,10 +4,10 @@ ghost use Rattle.ground.specs.Apart.{apart};
 ghost use Rattle.proposals.specs.Received.{received};
 ghost use Rattle.proposals.specs.Proposals.{compared, proposal_of};
 
-use crate::words::{CHECKS, CORRECTION, HEADER, code_word, differing, size_in};
+use crate::words::{code_word, differing, size_in};
 use answers::Refusal;
-use frame::{Format, Frame};
-use proposals::Proposal;
+use correction::{CHECKS, CORRECTION, HEADER};
+use frame::Format;
 
 // Among words of one length so many wrong bytes leave no doubt which code word was sent (12.8.3.2: E = 16).
 const MOST: usize = 16;
@@ -18,40 +18,35 @@ fn count(p: &[u8], s: &[u8], size: usize) -> usize
     ensures { result ≡ apart (received size s.now) (take (size + 32) p.now) }
 {
     let checks = size + HEADER;
-    let frame = differing(&s[0..size], &p[0..size]);
-    frame + differing(&s[checks..checks + CHECKS], &p[size..size + CHECKS])
+    differing(&s[..size], &p[..size])
+        + differing(&s[checks..checks + CHECKS], &p[size..size + CHECKS])
 }
 
 // Where both have all their bytes: first whether it is a code word, then how far it is.
-fn compare(p: &[u8], s: &[u8], size: usize) -> Proposal
+#[tactic(auto, unfolding(proposals::specs::Proposals::compared))]
+fn compare(p: &[u8], s: &[u8], size: usize) -> Result<usize, Refusal>
     requires { (size ≤ 223) × ((size + 32 ≤ length p.now) × (size + 34 ≤ length s.now)) }
     ensures { result ≡ compared (received size s.now) (take (size + 32) p.now) }
 {
-    if !code_word(&p[0..size + CHECKS]) {
-        return Proposal::Refused(Refusal::NotCode);
+    if !code_word(&p[..size + CHECKS]) {
+        return Err(Refusal::NotCode);
     }
     let d = count(p, s, size);
-    if MOST < d {
-        return Proposal::Refused(Refusal::TooFar);
+    if d > MOST {
+        return Err(Refusal::TooFar);
     }
-    Proposal::Taken(d)
+    Ok(d)
 }
 
 // Judges the proposal p, a frame and its check bytes, for the received bytes s, in which the header stands between the
 // two. Either may be longer.
-pub fn judge(f: Format, p: &[u8], s: &[u8]) -> Proposal
+#[tactic(auto, unfolding(proposals::specs::Proposals::proposal_of, proposals::specs::Proposals::proposal_by))]
+pub fn judge(f: Format, p: &[u8], s: &[u8]) -> Result<usize, Refusal>
     ensures { result ≡ proposal_of f p.now s.now }
 {
-    match size_in(f, p) {
-        Frame::Refused(r) => Proposal::Refused(r),
-        Frame::Accepted { size, n: _ } => {
-            if p.len() < size + CHECKS {
-                return Proposal::Refused(Refusal::Short);
-            }
-            if s.len() < size + CORRECTION {
-                return Proposal::Refused(Refusal::Short);
-            }
-            compare(p, s, size)
-        }
+    let size = size_in(f, p)?.size;
+    if p.len() < size + CHECKS || s.len() < size + CORRECTION {
+        return Err(Refusal::Short);
     }
+    compare(p, s, size)
 }

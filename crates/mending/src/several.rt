@@ -2,7 +2,8 @@
 ghost use Rattle.std.specs.Prelude.{cond, ◌≡◌, ◌≤◌, length};
 ghost use Rattle.proposals.specs.Near.{nearest_of};
 
-use crate::words::{CHECKS, remainder};
+use crate::words::remainder;
+use correction::CHECKS;
 use repairing::repair;
 
 // Mends up to 16 wrong bytes, but not the first, which is the length byte. Where it answers no, no code word is near,
@@ -12,8 +13,8 @@ pub(crate) fn mend_sixteen(w: &mut [u8]) -> bool
     ensures { (length w.new ≡ length w.old)
         × (cond result w.new w.old ≡ nearest_of 16 w.old) }
 {
-    let mut rest = [0u8; CHECKS];
-    if remainder(w, &mut rest) {
+    let rest = remainder(w);
+    if rest == [0; CHECKS] {
         return true;
     }
     repair(w, &rest)

@@ -1,3 +1,3 @@
 pub mod TableLaws
 pub mod SettledLaws
-pub mod LoopLaws
+pub mod TotalLaws

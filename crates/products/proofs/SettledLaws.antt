@@ -2,15 +2,9 @@
 --     tables_settled    two pairs of tables that are right are one
 --     ratio_settled     at most one element times b is a
 -- Assumes nothing.
-use mathlib.Core.List.{List}
-use mathlib.Core.Path.{◌≡◌, sym, ap, ◌∙◌}
-use Prim.Native.Nat.{ℕ, zero, suc, ◌<◌}
-use native.Mathlib.Omega.{arith}
-use borrow.Author.Tests.{ltb-true, ltb-false}
-use lib.Bits.{bit_xor, xor_lt, xor_self}
-use lib.Dec.{ltb}
-use lib.ListN.{get_or}
-use lib.Seq.{ext_get_or}
+use Rattle.std.proofs.Common.{List, ◌≡◌, sym, ap, ◌∙◌, ℕ, zero, suc, ◌<◌, arith, ltb-true, ltb-false, bit_xor, ltb}
+use Rattle.std.proofs.Common.{get_or, ext_get_or}
+use lib.Bits.{xor_lt, xor_self}
 use Rattle.ground.proofs.CaseLaws.{by_test}
 use Rattle.ground.proofs.XorLaws.{xor_equal}
 use Rattle.field.specs.Field.{mul}

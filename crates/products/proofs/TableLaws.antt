@@ -5,14 +5,9 @@
 --     log_is, log-le            a logarithm, as the table has it
 --     product, power_product, quotient_right    what stands where two logarithms lead
 -- Assumes nothing.
-use mathlib.Core.Bool.{Bool}
-use mathlib.Core.List.{List}
-use mathlib.Core.Path.{◌≡◌, refl, sym, ap, ap₂, ◌∙◌}
-use Prim.Native.Nat.{ℕ, zero, suc, ◌+◌, ◌-◌, ◌%◌, ◌≤◌, ◌<◌}
-use native.Mathlib.Omega.{arith}
-use borrow.Author.Tests.{ltb-true, ltb-false}
-use lib.Dec.{T, eqb, eqb→eq, ltb}
-use lib.ListN.{length, get_or, get_or-eq_default}
+use Rattle.std.proofs.Common.{Bool, List, ◌≡◌, refl, sym, ap, ap₂, ◌∙◌, ℕ, zero, suc, ◌+◌, ◌-◌, ◌%◌, ◌≤◌, ◌<◌, arith}
+use Rattle.std.proofs.Common.{ltb-true, ltb-false, T, eqb, eqb→eq, ltb, length, get_or}
+use lib.ListN.{get_or-eq_default}
 use Rattle.ground.proofs.CaseLaws.{by_test}
 use Rattle.ground.proofs.TableLaws.{all_below, all_below_at}
 use Rattle.field.specs.Field.{up, mul, alpha_to}

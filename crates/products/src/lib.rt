@@ -7,6 +7,4 @@ mod tables; // tables.rt: powers of alpha and their logarithms
 mod elements; // elements.rt: products and quotients of elements
 mod values; // values.rt: values of polynomials, values combined
 
-pub use elements::{ratio, times, times_power};
-pub use tables::{Tables, tables_lent};
-pub use values::{combine, value_at};
+pub use tables::Tables;

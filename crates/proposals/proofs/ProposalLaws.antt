@@ -1,6 +1,6 @@
 -- Judging and making proposals, by cases (specs/Proposals), and when one is taken (specs/TakenWith).
---     size_in-nil, size_in_bad, size_in_long, size_in_is       the size by the first byte
---     proposal_refused, -short, -too-short, -no-code, -far, -taken    judging a proposal
+--     size_in_is           the size by the first byte
+--     proposal_compared, compared_no_code, -far, -taken    judging a proposal
 --     proposing_refused, -short, -no-room, -done           making one
 --     size_in-accepted     what an accepted size says
 --     taken_exactly       a proposal is taken with d exactly where `TakenWith` says so
@@ -16,19 +16,17 @@ use borrow.Author.Tests.{lt-ltb, le-ltb, ltb-false}
 use lib.Dec.{ltb}
 use lib.ListN.{length, get_or, take, drop, length-drop}
 use lib.Seq.{length-take-le, take-add}
+use Rattle.std.specs.Prelude.{Result, Ok, Err}
 use Rattle.answers.specs.Outcome.{leaving}
 use Rattle.answers.specs.declared.Refusal.{Refusal}
-use Rattle.answers.specs.declared.Written.{Written}
 use Rattle.ground.specs.Apart.{apart}
 use Rattle.ground.specs.Bytes.{Bytes}
 use Rattle.ground.proofs.ByteLaws.{bytes_take, bytes_drop}
-use Rattle.ground.proofs.CaseLaws.{zero_not_one}
 use Rattle.frame.specs.declared.Format.{Format}
 use Rattle.frame.specs.declared.Frame.{Frame}
-use Rattle.frame.specs.Formats.{size_for}
+use Rattle.frame.specs.Formats.{sizes, size_for}
 use Rattle.codewords.specs.CodeBlocks.{CodeBlock, Corrects}
 use Rattle.codewords.proofs.FillLaws.{fill_code}
-use Rattle.proposals.specs.declared.Proposal.{Proposal}
 use Rattle.proposals.specs.Received.{not_too_long, size_in, received}
 use Rattle.proposals.specs.Near.{is_code_block, nearest_of}
 use Rattle.proposals.specs.Proposals.{compared, proposal_by, proposal_of, proposing_by, proposing_of}
@@ -36,11 +34,6 @@ use Rattle.proposals.specs.TakenWith.{TakenWith}
 use Rattle.proposals.proofs.CodeLaws.{is_code_block_code, code-is_code_block}
 
 -- ---- the size by the first byte
-
-pub size_in-nil : (f : Format) (s : List ℕ) → length s < 1 → size_in f s ≡ Frame.Refused Refusal.Short
-unfolding size_in
-size_in-nil f [] h = refl
-size_in-nil f (l ∷ s) h = absurd (omega arith)
 
 module _ (f : Format) (s : List ℕ) (some : 1 ≤ length s) where
   size_in_by : size_in f s ≡ not_too_long (size_for f (get_or s 0 0))
@@ -51,72 +44,54 @@ module _ (f : Format) (s : List ℕ) (some : 1 ≤ length s) where
       by [] h = absurd (omega arith)
       by (l ∷ v) h = refl
 
-  pub size_in_bad : {r : Refusal} → size_for f (get_or s 0 0) ≡ Frame.Refused r → size_in f s ≡ Frame.Refused r
-  unfolding not_too_long
-  size_in_bad e = size_in_by ∙ ap not_too_long e
-
-  module _ {z n : ℕ} (sized : size_for f (get_or s 0 0) ≡ Frame.Accepted z n) where
-    pub size_in_long : 223 < z → size_in f s ≡ Frame.Refused Refusal.TooLong
-    unfolding not_too_long
-    size_in_long h = size_in_by ∙ ap not_too_long sized ∙ rw (lt-ltb 223 z h)
-
-    pub size_in_is : z ≤ 223 → size_in f s ≡ Frame.Accepted z n
+  module _ {z n : ℕ} (sized : size_for f (get_or s 0 0) ≡ Ok (sizes z n)) where
+    pub size_in_is : z ≤ 223 → size_in f s ≡ Ok (sizes z n)
     unfolding not_too_long
     size_in_is h = size_in_by ∙ ap not_too_long sized ∙ rw (le-ltb 223 z h)
 
 pub record Sized (f : Format) (s : List ℕ) (z n : ℕ) : Type 0 where
-  pub size : size_for f (get_or s 0 0) ≡ Frame.Accepted z n
+  pub size : size_for f (get_or s 0 0) ≡ Ok (sizes z n)
   pub most : z ≤ 223
 
-not_long : (j : Frame) {z n : ℕ} → not_too_long j ≡ Frame.Accepted z n → (j ≡ Frame.Accepted z n) × (z ≤ 223)
+not_long : (j : Result Frame Refusal) {z n : ℕ} → not_too_long j ≡ Ok (sizes z n) → (j ≡ Ok (sizes z n)) × (z ≤ 223)
 unfolding not_too_long
-not_long (Frame.Refused r) e = absurd (zero_not_one (cc))
-not_long (Frame.Accepted y m) {z} {n} e = by (ltb 223 y) refl e
+not_long (Err r) e = cc
+not_long (Ok a) {z} {n} e = by (ltb 223 a.size) refl e
   where
     by :
-        (t : Bool) → ltb 223 y ≡ t
-        → cond t (Frame.Refused Refusal.TooLong) (Frame.Accepted y m) ≡ Frame.Accepted z n
-        → (Frame.Accepted y m ≡ Frame.Accepted z n) × (z ≤ 223)
-    by true t g = absurd (zero_not_one (cc))
-    by false t g = let same : y ≡ z = cc in (g, omega (arith, ltb-false 223 y t))
+        (t : Bool) → ltb 223 a.size ≡ t
+        → ◌≡◌ {A = Result Frame Refusal} (cond t (Err Refusal.TooLong) (Ok a)) (Ok (sizes z n))
+        → ◌≡◌ {A = Result Frame Refusal} (Ok a) (Ok (sizes z n)) × (z ≤ 223)
+    by true t g = cc
+    by false t g =
+        let same : a ≡ sizes z n = cc in
+        (g, omega (arith, ltb-false 223 a.size t, ap (λ (x : Frame). x.size) same))
 
-pub size_in-accepted : (f : Format) (s : List ℕ) {z n : ℕ} → size_in f s ≡ Frame.Accepted z n → Sized f s z n
+pub size_in-accepted : (f : Format) (s : List ℕ) {z n : ℕ} → size_in f s ≡ Ok (sizes z n) → Sized f s z n
 unfolding size_in
-size_in-accepted f [] e = absurd (zero_not_one (cc))
+size_in-accepted f [] e = cc
 size_in-accepted f (l ∷ s) e = let p = not_long (size_for f l) e in record { size = p.0; most = p.1 }
 
 -- ---- judging a proposal
 
 module _ (f : Format) (p s : List ℕ) where
-  pub proposal_refused : {r : Refusal} → size_in f p ≡ Frame.Refused r → proposal_of f p s ≡ Proposal.Refused r
-  unfolding proposal_of proposal_by
-  proposal_refused e = rw e
-
-  module _ {z n : ℕ} (sized : size_in f p ≡ Frame.Accepted z n) where
-    pub proposal_short : length p < z + 32 → proposal_of f p s ≡ Proposal.Refused Refusal.Short
-    unfolding proposal_of proposal_by
-    proposal_short h = rw (sized, lt-ltb (length p) (z + 32) h)
-
+  module _ {z n : ℕ} (sized : size_in f p ≡ Ok (sizes z n)) where
     module _ (whole : z + 32 ≤ length p) where
-      pub proposal_too_short : length s < z + 34 → proposal_of f p s ≡ Proposal.Refused Refusal.Short
-      unfolding proposal_of proposal_by
-      proposal_too_short h = rw (sized, le-ltb (length p) (z + 32) whole, lt-ltb (length s) (z + 34) h)
-
       pub proposal_compared :
           z + 34 ≤ length s → proposal_of f p s ≡ compared (received z s) (take (z + 32) p)
       unfolding proposal_of proposal_by
       proposal_compared h = rw (sized, le-ltb (length p) (z + 32) whole, le-ltb (length s) (z + 34) h)
 
 module _ (w c : List ℕ) where
-  pub compared_no_code : is_code_block c ≡ false → compared w c ≡ Proposal.Refused Refusal.NotCode
+  pub compared_no_code : is_code_block c ≡ false → compared w c ≡ Err Refusal.NotCode
   unfolding compared
   compared_no_code e = rw e
 
-  pub compared_far : is_code_block c ≡ true → 16 < apart w c → compared w c ≡ Proposal.Refused Refusal.TooFar
+  pub compared_far : is_code_block c ≡ true → 16 < apart w c → compared w c ≡ Err Refusal.TooFar
   unfolding compared
   compared_far e h = rw (e, lt-ltb 16 (apart w c) h)
 
-  pub compared_taken : is_code_block c ≡ true → apart w c ≤ 16 → compared w c ≡ Proposal.Taken (apart w c)
+  pub compared_taken : is_code_block c ≡ true → apart w c ≤ 16 → compared w c ≡ Ok (apart w c)
   unfolding compared
   compared_taken e h = rw (e, le-ltb 16 (apart w c) h)
 
@@ -124,26 +99,26 @@ module _ (w c : List ℕ) where
 
 module _ (k : ℕ) (f : Format) (s d : List ℕ) where
   pub proposing_refused :
-      {r : Refusal} → size_in f s ≡ Frame.Refused r → proposing_of k f s d ≡ leaving (Written.Refused r) d
+      {r : Refusal} → size_in f s ≡ Err r → proposing_of k f s d ≡ leaving (Err r) d
   unfolding proposing_of proposing_by
   proposing_refused e = rw e
 
-  module _ {z n : ℕ} (sized : size_in f s ≡ Frame.Accepted z n) where
+  module _ {z n : ℕ} (sized : size_in f s ≡ Ok (sizes z n)) where
     pub proposing_short :
-        length s < z + 34 → proposing_of k f s d ≡ leaving (Written.Refused Refusal.Short) d
+        length s < z + 34 → proposing_of k f s d ≡ leaving (Err Refusal.Short) d
     unfolding proposing_of proposing_by
     proposing_short h = rw (sized, lt-ltb (length s) (z + 34) h)
 
     module _ (there : z + 34 ≤ length s) where
       pub proposing_no_room :
-          length d < z + 32 → proposing_of k f s d ≡ leaving (Written.Refused Refusal.NoRoom) d
+          length d < z + 32 → proposing_of k f s d ≡ leaving (Err Refusal.NoRoom) d
       unfolding proposing_of proposing_by
       proposing_no_room h = rw (sized, le-ltb (length s) (z + 34) there, lt-ltb (length d) (z + 32) h)
 
       pub proposing_done :
           z + 32 ≤ length d
           → proposing_of k f s d
-          ≡ record { answer = Written.Accepted (z + 32); memory = nearest_of k (received z s) ++ drop (z + 32) d }
+          ≡ leaving (Ok (z + 32)) (nearest_of k (received z s) ++ drop (z + 32) d)
       unfolding proposing_of proposing_by
       proposing_done h = rw (sized, le-ltb (length s) (z + 34) there, le-ltb (length d) (z + 32) h)
 
@@ -186,18 +161,18 @@ record Compared (w c : List ℕ) (d : ℕ) : Type 0 where
   differing : apart w c ≡ d
   few : d ≤ 16
 
-compared_is : (w c : List ℕ) (d : ℕ) → compared w c ≡ Proposal.Taken d → Compared w c d
+compared_is : (w c : List ℕ) (d : ℕ) → compared w c ≡ Ok d → Compared w c d
 unfolding compared
 compared_is w c d = by (is_code_block c) refl (ltb 16 (apart w c)) refl
   where
     by :
         (t : Bool) → is_code_block c ≡ t → (u : Bool) → ltb 16 (apart w c) ≡ u
-        → cond t (cond u (Proposal.Refused Refusal.TooFar) (Proposal.Taken (apart w c)))
-        (Proposal.Refused Refusal.NotCode)
-        ≡ Proposal.Taken d
+        → cond t (cond u (Err Refusal.TooFar) (Ok (apart w c)))
+        (Err Refusal.NotCode)
+        ≡ Ok d
         → Compared w c d
-    by false t u far e = absurd (zero_not_one (cc))
-    by true t true far e = absurd (zero_not_one (cc))
+    by false t u far e = cc
+    by true t true far e = cc
     by true t false far e =
         let same : apart w c ≡ d = cc in
         record { code = t; differing = same; few = omega (arith, ltb-false 16 (apart w c) far) }
@@ -217,30 +192,30 @@ module _ (f : Format) (p s : List ℕ) (d : ℕ) (bytes : Bytes p) where
         few = e.few;
       }
 
-  taken_by : (j : Frame) → size_in f p ≡ j → proposal_by p s j ≡ Proposal.Taken d → (z : ℕ) × TakenWith f p s z d
+  taken_by : (j : Result Frame Refusal) → size_in f p ≡ j → proposal_by p s j ≡ Ok d → (z : ℕ) × TakenWith f p s z d
   unfolding proposal_by
-  taken_by (Frame.Refused r) e g = absurd (zero_not_one (cc))
-  taken_by (Frame.Accepted z n) e g = by (ltb (length p) (z + 32) || ltb (length s) (z + 34)) refl g
+  taken_by (Err r) e g = cc
+  taken_by (Ok a) e g = by (ltb (length p) (a.size + 32) || ltb (length s) (a.size + 34)) refl g
     where
       by :
-          (t : Bool) → ltb (length p) (z + 32) || ltb (length s) (z + 34) ≡ t
-          → cond t (Proposal.Refused Refusal.Short) (compared (received z s) (take (z + 32) p)) ≡ Proposal.Taken d
+          (t : Bool) → ltb (length p) (a.size + 32) || ltb (length s) (a.size + 34) ≡ t
+          → cond t (Err Refusal.Short) (compared (received a.size s) (take (a.size + 32) p)) ≡ Ok d
           → (z : ℕ) × TakenWith f p s z d
-      by true t h = absurd (zero_not_one (cc))
+      by true t h = cc
       by false t h =
-          let both = neither (ltb (length p) (z + 32)) (ltb (length s) (z + 34)) t in (
-            z,
+          let both = neither (ltb (length p) (a.size + 32)) (ltb (length s) (a.size + 34)) t in (
+            a.size,
             taken_with (size_in-accepted f p e) (ltb-false _ _ both.0) (ltb-false _ _ both.1)
-                (compared_is (received z s) (take (z + 32) p) d h),
+                (compared_is (received a.size s) (take (a.size + 32) p) d h),
           )
 
-  with_taken : (z : ℕ) → TakenWith f p s z d → proposal_of f p s ≡ Proposal.Taken d
+  with_taken : (z : ℕ) → TakenWith f p s z d → proposal_of f p s ≡ Ok d
   with_taken z t =
       proposal_compared f p s (size_in_is f p (omega (arith, t.proposed)) t.size t.most) t.proposed t.there
       ∙ compared_taken (received z s) (take (z + 32) p)
       (code-is_code_block _ (corrects_code z p bytes t.proposed t.code_word)) (omega (arith, t.differing, t.few))
-      ∙ ap Proposal.Taken t.differing
+      ∙ ap Ok t.differing
 
-  pub taken_exactly : (proposal_of f p s ≡ Proposal.Taken d) ↔ ((z : ℕ) × TakenWith f p s z d)
+  pub taken_exactly : (proposal_of f p s ≡ Ok d) ↔ ((z : ℕ) × TakenWith f p s z d)
   unfolding proposal_of
   taken_exactly = (taken_by (size_in f p) refl, λ (z, t). with_taken z t)

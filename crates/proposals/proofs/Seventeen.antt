@@ -11,7 +11,8 @@ use mathlib.Core.Path.{◌≡◌, refl, sym}
 use Prim.Native.Nat.{ℕ, ◌≤◌}
 use native.Mathlib.Omega.{arith}
 use lib.ListN.{length, drop}
-use Rattle.answers.specs.declared.Written.{Written}
+use Rattle.std.specs.Prelude.{Ok}
+use Rattle.answers.specs.Outcome.{leaving}
 use Rattle.ground.specs.Apart.{apart}
 use Rattle.ground.specs.Bytes.{Bytes}
 use Rattle.ground.specs.Sums.{xors}
@@ -21,12 +22,10 @@ use Rattle.blocks.specs.Spans.{size_of, cut, block_ok, first_wrong}
 use Rattle.field.specs.Field.{up, times_bits, mul}
 use Rattle.field.specs.Polynomials.{scaled}
 use Rattle.frame.specs.declared.Format.{Format}
-use Rattle.frame.specs.declared.Frame.{Frame}
-use Rattle.frame.specs.Formats.{frame_size}
+use Rattle.frame.specs.Formats.{sizes, frame_size}
 use Rattle.frame.specs.Judging.{by_checks, by_length, judge_of}
 use Rattle.codewords.specs.CheckBytes.{step_in, rem_of}
 use Rattle.codewords.proofs.NumbersLaws.{checks_of-numbers}
-use Rattle.proposals.specs.declared.Proposal.{Proposal}
 use Rattle.proposals.specs.Received.{not_too_long, size_in, received}
 use Rattle.proposals.specs.Proposals.{proposal_of, proposing_of}
 use Rattle.proposals.proofs.CodeLaws.{checks_code}
@@ -74,12 +73,12 @@ wrong_bytes : apart (received 20 heard17) sent ≡ 17
 unfolding apart
 wrong_bytes = refl
 
-both_frames : (judge_of Format.A sent ≡ Frame.Accepted 20 15) × (judge_of Format.A other ≡ Frame.Accepted 20 15)
+both_frames : (judge_of Format.A sent ≡ Ok (sizes 20 15)) × (judge_of Format.A other ≡ Ok (sizes 20 15))
 unfolding judge_of by_length by_checks frame_size size_of cut first_wrong block_ok check_of reg_of byte_in bits_in
     bit_in
 both_frames = (refl, refl)
 
-other_taken : proposal_of Format.A other heard17 ≡ Proposal.Taken 16
+other_taken : proposal_of Format.A other heard17 ≡ Ok 16
 unfolding step_in rem_of scaled xors mul times_bits up size_in not_too_long frame_size size_of cut apart
 other_taken =
     worked_taken Format.A other_frame other_checks heard17 16 {z = 20} {n = 15} (all_bytes other_frame tt)
@@ -99,17 +98,17 @@ other_sent =
 
 other-proposed :
     (e : List ℕ) → 52 ≤ length e
-    → proposing_of 16 Format.A heard17 e ≡ record { answer = Written.Accepted 52; memory = other ++ drop 52 e }
+    → proposing_of 16 Format.A heard17 e ≡ leaving (Ok 52) (other ++ drop 52 e)
 unfolding apart
 other-proposed e room =
     word-proposed other_sent heard17 (omega arith) 16 (omega arith) (bytes-received 20 heard17 (all_bytes heard17 tt))
     refl (omega arith) e room
 
-pub sent_is : (apart (received 20 heard17) sent ≡ 17) × (judge_of Format.A sent ≡ Frame.Accepted 20 15)
+pub sent_is : (apart (received 20 heard17) sent ≡ 17) × (judge_of Format.A sent ≡ Ok (sizes 20 15))
 sent_is = (wrong_bytes, both_frames.0)
 
 pub other_is :
     ((e : List ℕ) → 52 ≤ length e
-    → proposing_of 16 Format.A heard17 e ≡ record { answer = Written.Accepted 52; memory = other ++ drop 52 e })
-    × ((proposal_of Format.A other heard17 ≡ Proposal.Taken 16) × (judge_of Format.A other ≡ Frame.Accepted 20 15))
+    → proposing_of 16 Format.A heard17 e ≡ leaving (Ok 52) (other ++ drop 52 e))
+    × ((proposal_of Format.A other heard17 ≡ Ok 16) × (judge_of Format.A other ≡ Ok (sizes 20 15)))
 other_is = (other-proposed, (other_taken, both_frames.1))

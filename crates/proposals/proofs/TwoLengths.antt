@@ -12,6 +12,7 @@ use mathlib.Core.Path.{◌≡◌, refl, sym}
 use Prim.Native.Nat.{ℕ}
 use native.Mathlib.Omega.{arith}
 use lib.ListN.{take, drop}
+use Rattle.std.specs.Prelude.{Ok}
 use Rattle.ground.specs.Apart.{apart}
 use Rattle.ground.specs.Bytes.{Bytes}
 use Rattle.ground.specs.Sums.{xors}
@@ -21,12 +22,10 @@ use Rattle.blocks.specs.Spans.{size_of, cut, block_ok, first_wrong}
 use Rattle.field.specs.Field.{up, times_bits, mul}
 use Rattle.field.specs.Polynomials.{scaled}
 use Rattle.frame.specs.declared.Format.{Format}
-use Rattle.frame.specs.declared.Frame.{Frame}
-use Rattle.frame.specs.Formats.{frame_size}
+use Rattle.frame.specs.Formats.{sizes, frame_size}
 use Rattle.frame.specs.Judging.{by_checks, by_length, judge_of}
 use Rattle.codewords.specs.CheckBytes.{step_in, rem_of}
 use Rattle.codewords.proofs.NumbersLaws.{checks_of-numbers}
-use Rattle.proposals.specs.declared.Proposal.{Proposal}
 use Rattle.proposals.specs.Received.{not_too_long, size_in}
 use Rattle.proposals.specs.Proposals.{proposal_of}
 use Rattle.proposals.proofs.WorkedLaws.{worked_taken}
@@ -63,32 +62,32 @@ short = short_frame ++ short_checks
 pub all_are_bytes : Bytes heard × (Bytes long × Bytes short)
 all_are_bytes = (all_bytes heard tt, (all_bytes long tt, all_bytes short tt))
 
-short-accepted : judge_of Format.B short ≡ Frame.Accepted 13 10
+short-accepted : judge_of Format.B short ≡ Ok (sizes 13 10)
 unfolding judge_of by_length by_checks frame_size size_of cut first_wrong block_ok check_of reg_of byte_in bits_in
     bit_in
 short-accepted = refl
 
-long-accepted : judge_of Format.B long ≡ Frame.Accepted 77 74
+long-accepted : judge_of Format.B long ≡ Ok (sizes 77 74)
 unfolding judge_of by_length by_checks frame_size size_of cut first_wrong block_ok check_of reg_of byte_in bits_in
     bit_in
 long-accepted = refl
 
 -- ---- both are taken
 
-short_taken : proposal_of Format.B short heard ≡ Proposal.Taken 0
+short_taken : proposal_of Format.B short heard ≡ Ok 0
 unfolding step_in rem_of scaled xors mul times_bits up size_in not_too_long frame_size size_of cut apart
 short_taken =
     worked_taken Format.B short_frame short_checks heard 0 {z = 13} {n = 10} (all_bytes short_frame tt)
     (sym (checks_of-numbers short_frame)) refl (omega arith) (omega arith) refl refl (omega arith)
 
-long_taken : proposal_of Format.B long heard ≡ Proposal.Taken 1
+long_taken : proposal_of Format.B long heard ≡ Ok 1
 unfolding step_in rem_of scaled xors mul times_bits up size_in not_too_long frame_size size_of cut apart
 long_taken =
     worked_taken Format.B long_frame long_checks heard 1 {z = 77} {n = 74} (all_bytes long_frame tt)
     (sym (checks_of-numbers long_frame)) refl (omega arith) (omega arith) refl refl (omega arith)
 
-pub long_is : (proposal_of Format.B long heard ≡ Proposal.Taken 1) × (judge_of Format.B long ≡ Frame.Accepted 77 74)
+pub long_is : (proposal_of Format.B long heard ≡ Ok 1) × (judge_of Format.B long ≡ Ok (sizes 77 74))
 long_is = (long_taken, long-accepted)
 
-pub short_is : (proposal_of Format.B short heard ≡ Proposal.Taken 0) × (judge_of Format.B short ≡ Frame.Accepted 13 10)
+pub short_is : (proposal_of Format.B short heard ≡ Ok 0) × (judge_of Format.B short ≡ Ok (sizes 13 10))
 short_is = (short_taken, short-accepted)

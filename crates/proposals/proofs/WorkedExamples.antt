@@ -10,6 +10,7 @@ use mathlib.Core.Path.{◌≡◌, refl, sym, ◌∙◌}
 use Prim.Native.Nat.{ℕ}
 use native.Mathlib.Omega.{arith}
 use lib.ListN.{drop, replicate, set}
+use Rattle.std.specs.Prelude.{Ok, Err}
 use Rattle.answers.specs.declared.Refusal.{Refusal}
 use Rattle.ground.specs.Apart.{apart}
 use Rattle.ground.specs.Bytes.{Bytes}
@@ -25,7 +26,6 @@ use Rattle.codewords.specs.CodeBlocks.{root}
 use Rattle.codewords.specs.CheckBytes.{step_in, rem_of, checks_of}
 use Rattle.codewords.proofs.AnnexC.{checks_C2}
 use Rattle.codewords.proofs.NumbersLaws.{checks_of-numbers}
-use Rattle.proposals.specs.declared.Proposal.{Proposal}
 use Rattle.proposals.specs.Received.{not_too_long, size_in, received}
 use Rattle.proposals.specs.Near.{all_zero}
 use Rattle.proposals.specs.Proposals.{compared, proposal_by, proposal_of}
@@ -46,26 +46,26 @@ checks_sent : checks_C2 ≡ checks_of bytes_C2
 unfolding step_in rem_of scaled xors mul times_bits up
 checks_sent = sym (checks_of-numbers bytes_C2)
 
-pub nothing_differs : proposal_of Format.A word (came 0) ≡ Proposal.Taken 0
+pub nothing_differs : proposal_of Format.A word (came 0) ≡ Ok 0
 unfolding size_in not_too_long frame_size size_of cut apart
 nothing_differs =
     worked_taken Format.A bytes_C2 checks_C2 (came 0) 0 {z = 20} {n = 15} bytes_sent checks_sent refl (omega arith)
     (omega arith) refl refl (omega arith)
 
-pub sixteen_differ : proposal_of Format.A word (came 16) ≡ Proposal.Taken 16
+pub sixteen_differ : proposal_of Format.A word (came 16) ≡ Ok 16
 unfolding size_in not_too_long frame_size size_of cut apart
 sixteen_differ =
     worked_taken Format.A bytes_C2 checks_C2 (came 16) 16 {z = 20} {n = 15} bytes_sent checks_sent refl (omega arith)
     (omega arith) refl refl (omega arith)
 
-pub seventeen_differ : proposal_of Format.A word (came 17) ≡ Proposal.Refused Refusal.TooFar
+pub seventeen_differ : proposal_of Format.A word (came 17) ≡ Err Refusal.TooFar
 unfolding size_in not_too_long frame_size size_of cut apart
 seventeen_differ =
     proposal_compared Format.A word (came 17) {z = 20} {n = 15} refl (omega arith) (omega arith)
     ∙ compared_far (received 20 (came 17)) word (worked_code bytes_C2 checks_C2 bytes_sent checks_sent) (omega arith)
 
 -- the proposal's last check byte is wrong: its value at the last root is not 0
-pub no_code_word : proposal_of Format.A (set word 51 0) (came 17) ≡ Proposal.Refused Refusal.NotCode
+pub no_code_word : proposal_of Format.A (set word 51 0) (came 17) ≡ Err Refusal.NotCode
 unfolding proposal_of proposal_by compared size_in not_too_long frame_size size_of cut apart all_zero root alpha_to
     eval_from mul
     times_bits up

@@ -8,12 +8,12 @@ use mathlib.Core.Path.{◌≡◌, ap, ◌∙◌}
 use Prim.Native.Nat.{ℕ, ◌+◌, ◌≤◌}
 use native.Mathlib.Omega.{arith}
 use lib.ListN.{length, take}
+use Rattle.std.specs.Prelude.{Ok}
 use Rattle.ground.specs.Apart.{apart}
 use Rattle.ground.specs.Bytes.{Bytes}
 use Rattle.frame.specs.declared.Format.{Format}
-use Rattle.frame.specs.declared.Frame.{Frame}
+use Rattle.frame.specs.Formats.{sizes}
 use Rattle.codewords.specs.CheckBytes.{checks_of}
-use Rattle.proposals.specs.declared.Proposal.{Proposal}
 use Rattle.proposals.specs.Received.{size_in, received}
 use Rattle.proposals.specs.Near.{is_code_block}
 use Rattle.proposals.specs.Proposals.{compared, proposal_of}
@@ -25,10 +25,10 @@ worked_code w c bytes checks = code-is_code_block (w ++ c) (checks_code w bytes 
 
 module _ (f : Format) (w c r : List ℕ) (d : ℕ) {z n : ℕ} where
   pub worked_taken :
-      Bytes w → c ≡ checks_of w → size_in f (w ++ c) ≡ Frame.Accepted z n → z + 32 ≤ length (w ++ c)
+      Bytes w → c ≡ checks_of w → size_in f (w ++ c) ≡ Ok (sizes z n) → z + 32 ≤ length (w ++ c)
       → z + 34 ≤ length r → take (z + 32) (w ++ c) ≡ w ++ c → apart (received z r) (w ++ c) ≡ d → d ≤ 16
-      → proposal_of f (w ++ c) r ≡ Proposal.Taken d
+      → proposal_of f (w ++ c) r ≡ Ok d
   worked_taken bytes checks sized whole there all differing few =
       proposal_compared f (w ++ c) r sized whole there ∙ ap (compared (received z r)) all
       ∙ compared_taken (received z r) (w ++ c) (worked_code w c bytes checks) (omega (arith, differing))
-      ∙ ap Proposal.Taken differing
+      ∙ ap Ok differing

@@ -4,18 +4,18 @@
 --     received z s     the word that s holds, where the frame has z bytes: the frame and its 32 check bytes. The two
 --                      bytes of header between them are skipped, whatever they are. The zero fill of 11/14 is left out:
 --                      before a block it changes nothing (codewords/proofs/FillLaws)
-use Rattle.std.specs.Prelude.{cond, List, [], ◌∷◌, ◌++◌, ℕ, ◌+◌, ltb, take, drop}
+use Rattle.std.specs.Prelude.{cond, Result, Ok, Err, List, [], ◌∷◌, ◌++◌, ℕ, ◌+◌, ltb, take, drop}
 use Rattle.answers.specs.declared.Refusal.{Refusal}
 use Rattle.frame.specs.declared.Format.{Format}
 use Rattle.frame.specs.declared.Frame.{Frame}
 use Rattle.frame.specs.Formats.{size_for}
 
-unfoldable pub not_too_long : Frame → Frame
-not_too_long (Frame.Accepted z n) = cond (ltb 223 z) (Frame.Refused Refusal.TooLong) (Frame.Accepted z n)
-not_too_long (Frame.Refused r) = Frame.Refused r
+unfoldable pub not_too_long : Result Frame Refusal → Result Frame Refusal
+not_too_long (Ok a) = cond (ltb 223 a.size) (Err Refusal.TooLong) (Ok a)
+not_too_long (Err r) = Err r
 
-unfoldable pub size_in : Format → List ℕ → Frame
-size_in f [] = Frame.Refused Refusal.Short
+unfoldable pub size_in : Format → List ℕ → Result Frame Refusal
+size_in f [] = Err Refusal.Short
 size_in f (l ∷ s) = not_too_long (size_for f l)
 
 abbrev pub received : ℕ → List ℕ → List ℕ

@@ -2,6 +2,8 @@
 -- stand.
 --     frame_after_coded    where they stand and there is room for the content, it is handed over
 --     coded_read          and where the bytes that were decoded are a frame, its content's code words stand there
+use Rattle.std.specs.Prelude.{Result, Ok}
+use Rattle.answers.specs.declared.Refusal.{Refusal}
 use mathlib.Core.List.{List, [], ◌++◌, append-nil}
 use mathlib.Core.Path.{◌≡◌, refl, ap, sym, ◌∙◌}
 use Prim.Native.Nat.{ℕ, ◌+◌, ◌≤◌, ◌<◌}
@@ -16,12 +18,13 @@ use Rattle.line.proofs.CodeLaws.{lawful}
 use Rattle.line.proofs.TripLaws.{good_run_encode, decode_encode, encode_decode, length-decoding}
 use Rattle.frame.specs.declared.Format.{Format}
 use Rattle.frame.specs.declared.Frame.{Frame}
-use Rattle.frame.specs.Formats.{form_of, frame_size, size_for}
+use Rattle.frame.specs.Formats.{sizes, form_of, frame_size, size_for}
 use Rattle.frame.specs.Frames.{frame_of, FrameAt}
 use Rattle.frame.specs.Reads.{reading_of}
 use Rattle.frame.proofs.AcceptLaws.{frame_split}
 use Rattle.frame.proofs.FormatLaws.{allowed-length_byte, content_length-length_byte}
 use Rattle.frame.proofs.FrameLaws.{length_frame_of, frame_of_cons, frame_of_bytes}
+use Rattle.frame.proofs.JudgeLaws.{sizes_settled}
 use Rattle.frame.proofs.ReadLaws.{read_accepts}
 use Rattle.sync.specs.declared.Kind.{Kind}
 use Rattle.sync.specs.Kinds.{lead_of}
@@ -34,7 +37,7 @@ use Rattle.radio.proofs.ThroughLaws.{Through, through_le, after_words_through, g
 -- the size that the length byte of a content's frame says
 size_for_length_byte :
     (f : Format) (c : List ℕ) → (form_of f).shortest ≤ length c → length c ≤ (form_of f).longest
-    → size_for f ((form_of f).length_byte (length c)) ≡ Frame.Accepted (frame_size f (length c)) (length c)
+    → size_for f ((form_of f).length_byte (length c)) ≡ Ok (sizes (frame_size f (length c)) (length c))
 size_for_length_byte f c low high =
     rw (allowed-length_byte f (length c) low high, content_length-length_byte f (length c) low high)
 
@@ -83,13 +86,13 @@ module _ {k : Kind} {s : List ℕ} {place : ℕ} {c : List ℕ} (p : FrameCoded 
       ∙ ap (λ (x : List ℕ). get_or x 0 0) (decoding_coded ∙ sym (append-nil frame))
       ∙ get_or_frame_of (format_of k) c []
 
-  size_for_coded : size_for (format_of k) (length_at (line_of k) s at) ≡ Frame.Accepted size (length c)
+  size_for_coded : size_for (format_of k) (length_at (line_of k) s at) ≡ Ok (sizes size (length c))
   size_for_coded = ap (size_for (format_of k)) length_at_coded ∙ size_for_length_byte (format_of k) c p.low p.high
 
   module _ (small : length s ≤ room_limit) (t : ℕ) (d : List ℕ) (room : length c ≤ length d) where
     reading_coded :
         reading_of (format_of k) (decoding (line_of k) s at size) d
-        ≡ record { answer = Frame.Accepted size (length c); memory = c ++ drop (length c) d }
+        ≡ record { answer = Ok (sizes size (length c)); memory = c ++ drop (length c) d }
     reading_coded =
         ap (λ (x : List ℕ). reading_of (format_of k) x d) decoding_coded
         ∙ read_accepts (frame_at_frame_of (format_of k) c p.low p.high) d room
@@ -101,11 +104,11 @@ module _ {k : Kind} {s : List ℕ} {place : ℕ} {c : List ℕ} (p : FrameCoded 
         after_words_through (line_of k) s at 1 d _ (through_le whole size_some)
         ∙ ap (by_size k place t s d) size_for_coded
         ∙ after_words_through (line_of k) s at size d _ whole
-        ∙ ap (λ (o : Outcome Frame). by_frame k place t o.memory o.answer) reading_coded
+        ∙ ap (λ (o : Outcome (Result Frame Refusal)). by_frame k place t o.memory o.answer) reading_coded
 
 -- the first y bytes were decoded, as their first byte says, and z of them are the frame of c
 module _ (k : Kind) {s : List ℕ} (place : ℕ) {y m z : ℕ} {c : List ℕ}
-    (sized : size_for (format_of k) (length_at (line_of k) s (place + lead_of k)) ≡ Frame.Accepted y m)
+    (sized : size_for (format_of k) (length_at (line_of k) s (place + lead_of k)) ≡ Ok (sizes y m))
     (whole : Through (line_of k) s (place + lead_of k) y)
     (frame : FrameAt (format_of k) (decoding (line_of k) s (place + lead_of k) y) z c) where
   abbrev bytes : List ℕ
@@ -129,8 +132,7 @@ module _ (k : Kind) {s : List ℕ} (place : ℕ) {y m z : ℕ} {c : List ℕ}
   size_read =
       let f = format_of k in
       let says = ap (size_for f) length_at_read ∙ size_for_length_byte f c frame.low frame.high in
-      let size : y ≡ frame_size f (length c) = cc in
-      frame.size ∙ sym size
+      frame.size ∙ sym (sizes_settled (sym sized ∙ says)).0
 
   frame_of_read : frame_of (format_of k) c ≡ bytes
   frame_of_read = sym frame.bytes ∙ take_all z bytes (omega (arith, size_read, length_bytes))

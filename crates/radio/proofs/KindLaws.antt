@@ -16,8 +16,7 @@ use Rattle.ground.proofs.CaseLaws.{zero_not_one}
 use Rattle.chips.specs.Chips.{chip_at, word_at, gather, chip_count}
 use Rattle.chips.proofs.GatherLaws.{gather-add, gather-lt, chip_at-lt}
 use Rattle.line.specs.declared.codes.Code.TheVariants.{ThreeOfSix}
-use Rattle.line.specs.declared.codes.Value.{Value}
-use Rattle.line.specs.declared.codes.Value.TheVariants.{NoWord}
+use Rattle.std.specs.Prelude.{Option, None}
 use Rattle.line.specs.Codes.{code_of, word_value, words_in}
 use Rattle.line.specs.Decoding.{value_at, is_word}
 use Rattle.line.proofs.CodeLaws.{lawful}
@@ -72,8 +71,8 @@ word_at_six s at =
 -- 010101 is no three-of-six word
 is_word_alternating : (y : ℕ) → y ≡ 0b010101 → is_word (word_value (code_of ThreeOfSix) y) ≡ true → ⊥
 is_word_alternating y e h =
-    let none : word_value (code_of ThreeOfSix) y ≡ NoWord
-    = ap (word_value (code_of ThreeOfSix)) e ∙ ap (λ (l : List Value). get_or l 1 NoWord) never_words.0 in
+    let none : word_value (code_of ThreeOfSix) y ≡ None
+    = ap (word_value (code_of ThreeOfSix)) e ∙ ap (λ (l : List (Option ℕ)). get_or l 1 None) never_words.0 in
     let never : false ≡ true = sym (ap is_word none) ∙ h in
     zero_not_one cc
 

@@ -1,11 +1,9 @@
 pub mod AirLaws
-pub mod DecodeCallLaws
 pub mod FrameHeardLaws
 pub mod HeardLaws
 pub mod KindLaws
 pub mod PutLaws
 pub mod RoundLaws
-pub mod SendLaws
 pub mod SizeLaws
 pub mod ThroughLaws
 pub mod WorkedExamples

@@ -5,6 +5,7 @@
 --     receiving_of_among    so it is received there, where the call reaches it
 --     sent_heard           receiving what was sent gives back content and kind, at place 0, as the first position tried
 --     heard_sent           sending what was received gives back the chips that were received
+use Rattle.std.specs.Prelude.{Result, Ok}
 use mathlib.Core.List.{List, [], ◌++◌}
 use mathlib.Core.Path.{◌≡◌, refl, ap, sym, ◌∙◌}
 use Prim.Native.Nat.{ℕ, ◌+◌, ◌-◌, ◌*◌, ◌≤◌, ◌<◌}
@@ -14,9 +15,8 @@ use borrow.Author.Tests.{le-ltb, ltb-false}
 use lib.Dec.{ltb}
 use lib.ListN.{length, take, drop, length-append, length-take}
 use lib.Seq.{take-append-add}
-use Rattle.answers.specs.Outcome.{Outcome}
+use Rattle.answers.specs.Outcome.{leaving, Outcome}
 use Rattle.answers.specs.declared.Refusal.{Refusal}
-use Rattle.answers.specs.declared.Written.{Written}
 use Rattle.ground.specs.Bytes.{Bytes}
 use Rattle.chips.specs.Chips.{chip_at, room_limit}
 use Rattle.chips.proofs.PackingLaws.{chip_at_middle}
@@ -55,7 +55,7 @@ module _ (k : Kind) (c : List ℕ) where
   module _ (d : List ℕ) where
     sending_of_accepts :
         (form_of (format_of k)).shortest ≤ length c → length c ≤ (form_of (format_of k)).longest → sent_size ≤ length d
-        → sending_of k c d ≡ record { answer = Written.Accepted sent_size; memory = sent_of k c ++ drop sent_size d }
+        → sending_of k c d ≡ leaving (Ok sent_size) (sent_of k c ++ drop sent_size d)
     unfolding sending_of putting
     sending_of_accepts low high room =
         let allowed = within_true (form_of (format_of k)).shortest (form_of (format_of k)).longest (length c) low high
@@ -68,18 +68,18 @@ module _ (k : Kind) (c : List ℕ) where
       room : sent_size ≤ length d
 
     putting-accepted :
-        (p : List ℕ) {y : ℕ} → (putting k p d).answer ≡ Written.Accepted y → air_size k (length p) ≤ length d
+        (p : List ℕ) {y : ℕ} → (putting k p d).answer ≡ Ok y → air_size k (length p) ≤ length d
     unfolding putting
     putting-accepted p e =
         let size = air_size k (length p) in
-        let put : Outcome Written = record { answer = Written.Accepted size; memory = air_of k p ++ drop size d } in
-        ltb-false (length d) size (accepted-cond_false (ltb (length d) size) Refusal.NoRoom d put e).0
+        let put : Outcome (Result ℕ Refusal) = leaving (Ok size) (air_of k p ++ drop size d) in
+        ltb-false (length d) size (accepted-cond_false (ltb (length d) size) Refusal.NoRoom _ put e).0
 
-    sending_of-accepted : {y : ℕ} → (sending_of k c d).answer ≡ Written.Accepted y → Sendable
+    sending_of-accepted : {y : ℕ} → (sending_of k c d).answer ≡ Ok y → Sendable
     unfolding sending_of
     sending_of-accepted e =
         let allowed = within (form_of (format_of k)).shortest (form_of (format_of k)).longest (length c) in
-        let tests = accepted-cond_true allowed Refusal.BadContent d (putting k (frame_of (format_of k) c) d) e in
+        let tests = accepted-cond_true allowed Refusal.BadContent _ (putting k (frame_of (format_of k) c) d) e in
         let both = true_within (form_of (format_of k)).shortest (form_of (format_of k)).longest (length c) tests.0 in
         let room = rw (length_frame_of (format_of k) c) at (putting-accepted (frame_of (format_of k) c) tests.1) in
         record { low = both.0; high = both.1; room = room }
@@ -114,17 +114,16 @@ module _ (k : Kind) (c buf : List ℕ) where
       rw all at (take-append-add (sent_of k c) (drop (sent_size k c) buf) (m - length (sent_of k c)))
 
   sent_fits :
-      {o : Outcome Written} {x : List ℕ} {y m : ℕ}
-      → o ≡ record { answer = Written.Accepted (sent_size k c); memory = x } → o.answer ≡ Written.Accepted y → y ≤ m
+      {o : Outcome (Result ℕ Refusal)} {x : List ℕ} {y m : ℕ}
+      → o ≡ leaving (Ok (sent_size k c)) x → o.answer ≡ Ok y → y ≤ m
       → length (sent_of k c) ≤ m
   sent_fits {y = y} is e h =
-      let answer = ap (λ (x : Outcome Written). x.answer) is in
+      let answer = ap (λ (x : Outcome (Result ℕ Refusal)). x.answer) is in
       let same : sent_size k c ≡ y = cc in
       omega (arith, same, length-sent_of k c)
 
 module _ (k : Kind) (c d : List ℕ) (bytes : Bytes c) (room : length c ≤ length d) where
-  pub receiving_of_among :
-      (pre post : List ℕ) (start a t : ℕ) → (form_of (format_of k)).shortest ≤ length c
+  pub receiving_of_among : (pre post : List ℕ) (start a t : ℕ) → (form_of (format_of k)).shortest ≤ length c
       → length c ≤ (form_of (format_of k)).longest → let s = pre ++ (sent_of k c ++ post) in
       length s ≤ room_limit → Reached (searched k) s start a (8 * length pre) t
       → receiving_of k s start a d ≡ heard_of k (8 * length pre) t (frame_size (format_of k) (length c)) c d
@@ -134,7 +133,7 @@ module _ (k : Kind) (c d : List ℕ) (bytes : Bytes c) (room : length c ≤ leng
       (record { small = small; reached = reached; sent = sent; count = refl; size = refl; room = room })
 
   pub sent_heard :
-      (buf : List ℕ) (a y m : ℕ) → 0 < a → (sending_of k c buf).answer ≡ Written.Accepted y → y ≤ m → m ≤ room_limit
+      (buf : List ℕ) (a y m : ℕ) → 0 < a → (sending_of k c buf).answer ≡ Ok y → y ≤ m → m ≤ room_limit
       → receiving_of k (take m (sending_of k c buf).memory) 0 a d
       ≡ heard_of k 0 (first_try k) (frame_size (format_of k) (length c)) c d
   sent_heard buf a y m some e whole small =
@@ -142,7 +141,7 @@ module _ (k : Kind) (c d : List ℕ) (bytes : Bytes c) (room : length c ≤ leng
       let o = sending_of_accepts k c buf p.low p.high p.room in
       let rest = take (m - length (sent_of k c)) (drop (sent_size k c) buf) in
       let among = sent_fits k c buf o e whole in
-      let memory = ap (λ (x : Outcome Written). take m x.memory) o ∙ take_sent_in k c buf m among in
+      let memory = ap (λ (x : Outcome (Result ℕ Refusal)). take m x.memory) o ∙ take_sent_in k c buf m among in
       let reached = reached_sent k (sent_at_among k c bytes p.low p.high [] rest) some in
       let fits : length (sent_of k c ++ rest) ≤ room_limit = rw (← memory, length-take) (omega arith) in
       ap (λ (s : List ℕ). receiving_of k s 0 a d) memory
@@ -159,7 +158,7 @@ chip_at_sent_in k c rest i h =
 sending_of_heard :
     {s : List ℕ} {start a : ℕ} {d : List ℕ} {k : Kind} {place t z n : ℕ} {c : List ℕ}
     → Heard s start a d k place t z n c → (out : List ℕ) → let y = air_size k z in y ≤ length out
-    → sending_of k c out ≡ record { answer = Written.Accepted y; memory = sent_of k c ++ drop y out }
+    → sending_of k c out ≡ leaving (Ok y) (sent_of k c ++ drop y out)
 sending_of_heard {k = k} {c = c} h out room =
     let size = ap (frame_size (format_of k)) h.count ∙ sym h.size in
     rw size at (sending_of_accepts k c out h.sent.low h.sent.high (rw size room))
@@ -167,13 +166,13 @@ sending_of_heard {k = k} {c = c} h out room =
 pub heard_sent :
     (s : List ℕ) (start a : ℕ) (d : List ℕ) (k : Kind) (place t z n : ℕ) (c out : List ℕ)
     → Heard s start a d k place t z n c → air_size k z ≤ length out
-    → ((sending_of k c out).answer ≡ Written.Accepted (air_size k z))
+    → ((sending_of k c out).answer ≡ Ok (air_size k z))
     × ((i : ℕ) → i < sent_chips k n → chip_at (sending_of k c out).memory i ≡ chip_at s (place + i))
 heard_sent s start a d k place t z n c out h room = (
-  ap (λ (o : Outcome Written). o.answer) (sending_of_heard h out room),
+  ap (λ (o : Outcome (Result ℕ Refusal)). o.answer) (sending_of_heard h out room),
   λ i l.
       let inside : i < sent_chips k (length c) = rw h.count l in
-      ap (λ (o : Outcome Written). chip_at o.memory i) (sending_of_heard h out room)
+      ap (λ (o : Outcome (Result ℕ Refusal)). chip_at o.memory i) (sending_of_heard h out room)
       ∙ chip_at_sent_in k c (drop (air_size k z) out) i inside
       ∙ sym (h.sent.chips i inside),
 )

@@ -5,6 +5,7 @@
 --     after_words_through        behind such words what comes next decides
 --     through_le                fewer bytes of the same words
 --     get_or-decoding             the first of some decoded bytes is the length byte
+use Rattle.std.specs.Prelude.{Result, Err}
 use mathlib.Core.Bool.{Bool, true, false, cond}
 use mathlib.Core.List.{List}
 use mathlib.Core.Path.{◌≡◌, refl}
@@ -49,7 +50,7 @@ pub get_or-decoding :
     (κ : LineCode) (s : List ℕ) (at n : ℕ) → 0 < n → get_or (decoding κ s at n) 0 0 ≡ length_at κ s at
 get_or-decoding κ s at n h = decoding_head κ s at n 1 h (omega arith)
 
-module _ (κ : LineCode) (s : List ℕ) (at n : ℕ) (d : List ℕ) (next : Outcome Reception) where
+module _ (κ : LineCode) (s : List ℕ) (at n : ℕ) (d : List ℕ) (next : Outcome (Result Reception Refusal)) where
   abbrev good : ℕ
   good = good_run (value_at κ s at) (words_in κ n)
 
@@ -64,18 +65,18 @@ module _ (κ : LineCode) (s : List ℕ) (at n : ℕ) (d : List ℕ) (next : Outc
       let start : InBuffer s at = in_range_true e in
       record { small = start.small; there = there; words = all }
 
-  module _ (P : Outcome Reception → Type 0) (outside : P (leaving (Reception.Refused Refusal.OutOfRange) d)) where
+  module _ (P : Outcome (Result Reception Refusal) → Type 0) (outside : P (leaving (Err Refusal.OutOfRange) d)) where
     module _
-        (short : P (leaving (Reception.Refused Refusal.Short) d))
-        (bad : (i : ℕ) → P (leaving (Reception.Refused (Refusal.BadWord i)) d))
+        (short : P (leaving (Err Refusal.Short) d))
+        (bad : (i : ℕ) → P (leaving (Err (Refusal.BadWord i)) d))
       where
         by_tests :
             (Through κ s at n → P next) → (x : Bool) → in_range s at ≡ x
             → (u : Bool) → ltb (chip_count s) (at + chips_in κ n) ≡ u → (w : Bool) → ltb good (words_in κ n) ≡ w
             → P (cond x
-            (cond u (leaving (Reception.Refused Refusal.Short) d)
-            (cond w (leaving (Reception.Refused (Refusal.BadWord good)) d) next))
-            (leaving (Reception.Refused Refusal.OutOfRange) d))
+            (cond u (leaving (Err Refusal.Short) d)
+            (cond w (leaving (Err (Refusal.BadWord good)) d) next))
+            (leaving (Err Refusal.OutOfRange) d))
         by_tests on true e false f false g = on (through_tested e f g)
         by_tests on true e false f true g = bad good
         by_tests on true e true f w g = short

@@ -5,12 +5,13 @@
 --     sent_Manchester_A      the frame of C.1, which is that of C.2. Our copy of C.1 has the chips of 78 0B 13 43 65 87
 --                            and the first twelve of 1E; the others are lost with a page, and follow from 6.4.1
 -- No preamble and no postamble: the radio chip adds them (D4).
+use Rattle.std.specs.Prelude.{Result, Ok}
+use Rattle.answers.specs.declared.Refusal.{Refusal}
 use mathlib.Core.List.{List, [], ◌∷◌, ◌++◌}
 use mathlib.Core.Path.{◌≡◌, ap}
 use Prim.Native.Nat.{ℕ}
 use lib.ListN.{replicate}
-use Rattle.answers.specs.Outcome.{Outcome}
-use Rattle.answers.specs.declared.Written.{Written}
+use Rattle.answers.specs.Outcome.{leaving, Outcome}
 use Rattle.chips.specs.Chips.{gather}
 use Rattle.chips.specs.Packing.{tabulate, packed}
 use Rattle.frame.proofs.WorkedExamples.{content_C2, frame_C2, content_C3, frame_C3}
@@ -44,8 +45,8 @@ chips_Manchester_A =
     ∷ 0x95 ∷ 0x6A ∷ 0xAA ∷ 0x65 ∷ 0xA9 ∷ 0xA5 ∷ 0x9A ∷ 0xA5 ∷ 0x96 ∷ 0x99 ∷ 0x6A ∷ 0x95 ∷ 0xA9 ∷ 0x56 ∷ 0x96 ∷ 0x59 ∷ []
 
 -- what sending leaves of lent memory that is one byte longer and held FFh everywhere
-abbrev sent : ℕ → List ℕ → Outcome Written
-sent n chips = record { answer = Written.Accepted n; memory = chips ++ (0xFF ∷ []) }
+abbrev sent : ℕ → List ℕ → Outcome (Result ℕ Refusal)
+sent n chips = leaving (Ok n) (chips ++ (0xFF ∷ []))
 
 pub sent_T_A : sending_of TWithA content_C2 (replicate 33 0xFF) ≡ sent 32 chips_T_A
 unfolding sending_of putting air_of encoding packed tabulate gather

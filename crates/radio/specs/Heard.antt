@@ -11,8 +11,9 @@
 --                                  s is not too long (house)
 --     heard_of k place t z c d      then the answer names kind, place, positions, frame size and length; d begins with
 --                                  c
-use Rattle.std.specs.Prelude.{Bool, true, false, cond, List, ◌++◌, ◌≡◌, ℕ, ◌≤◌, ltb, length, drop}
-use Rattle.answers.specs.Outcome.{Outcome}
+use Rattle.std.specs.Prelude.{Bool, true, false, cond, List, ◌++◌, ◌≡◌, ℕ, ◌≤◌, ltb, length, drop, Result, Ok}
+use Rattle.answers.specs.Outcome.{Outcome, leaving}
+use Rattle.answers.specs.declared.Refusal.{Refusal}
 use Rattle.chips.specs.Chips.{room_limit}
 use Rattle.frame.specs.Formats.{frame_size}
 use Rattle.sync.specs.declared.Kind.{Kind}
@@ -21,13 +22,13 @@ use Rattle.sync.specs.Kinds.{lead_of}
 use Rattle.sync.specs.SyncSearch.{sync_word, sync_width}
 use Rattle.radio.specs.declared.Reception.{Reception}
 use Rattle.radio.specs.KindParts.{format_of}
-use Rattle.radio.specs.Receiving.{reception_of, manchester_of}
+use Rattle.radio.specs.Receiving.{reception, reception_of, manchester_of}
 use Rattle.radio.specs.Sending.{SentAt}
 
 abbrev pub searched : Kind → Bool
 searched k = ltb 0 (lead_of k)
 
-abbrev pub receiving_of : Kind → List ℕ → ℕ → ℕ → List ℕ → Outcome Reception
+abbrev pub receiving_of : Kind → List ℕ → ℕ → ℕ → List ℕ → Outcome (Result Reception Refusal)
 receiving_of k s start a d = cond (searched k) (reception_of s start a d) (manchester_of s start d)
 
 abbrev pub Reached : Bool → List ℕ → ℕ → ℕ → ℕ → ℕ → Type 0
@@ -45,6 +46,6 @@ pub record Heard (s : List ℕ) (start a : ℕ) (d : List ℕ) (k : Kind) (place
   pub size : z ≡ frame_size (format_of k) n
   pub room : n ≤ length d
 
-abbrev pub heard_of : Kind → ℕ → ℕ → ℕ → List ℕ → List ℕ → Outcome Reception
+abbrev pub heard_of : Kind → ℕ → ℕ → ℕ → List ℕ → List ℕ → Outcome (Result Reception Refusal)
 heard_of k place t z c d =
-    record { answer = Reception.Accepted k place t z (length c); memory = c ++ drop (length c) d }
+    leaving (Ok (reception k place t z (length c))) (c ++ drop (length c) d)

@@ -1,5 +1,7 @@
 -- Receiving a frame in chips (document 01, "Answer numbers": 10; 7 or 14; sync tail 1, 8; first byte 1, 6; 2; rest of
 -- the frame 1, 6; 3; 4. A Manchester start skips 7, 14 and the tail).
+--     reception k place t z n      a frame of kind k whose sync word stands at `place`, found after t positions: z
+--                                 bytes of frame, n of content
 --     after_words κ s at n d next  the words of n bytes from chip `at` on: 10 if that is out of range, 1 if a word is
 --                                 missing, 6 if one is no code word (its place counted from `at`), else what comes next
 --     by_frame k place t m r       as the frame's bytes were read, which left m: 3, 4 or accepted
@@ -13,7 +15,7 @@
 --     manchester_of s start d      the Manchester frame at a named chip: the place is the start, no position was tried
 -- Only the first match is followed, and it is in range: 10 behind it is Manchester's alone. A refusal leaves d as it
 -- was; the place that goes with 6 does not count the sync chips.
-use Rattle.std.specs.Prelude.{cond, List, ℕ, ◌+◌, ltb, get_or}
+use Rattle.std.specs.Prelude.{cond, List, ℕ, ◌+◌, ltb, get_or, Result, Ok, Err}
 use Rattle.answers.specs.Outcome.{Outcome, leaving}
 use Rattle.answers.specs.declared.Refusal.{Refusal}
 use Rattle.chips.specs.Chips.{chip_count, in_range}
@@ -24,51 +26,54 @@ use Rattle.frame.specs.Formats.{size_for}
 use Rattle.frame.specs.Reads.{reading_of}
 use Rattle.sync.specs.declared.Kind.{Kind}
 use Rattle.sync.specs.declared.Kind.TheVariants.{ManchesterWithA}
-use Rattle.sync.specs.declared.Sync.{Sync}
-use Rattle.sync.specs.declared.Tail.{Tail}
+use Rattle.sync.specs.declared.Found.{Found}
 use Rattle.sync.specs.Kinds.{lead_of}
 use Rattle.sync.specs.SyncSearch.{search_of}
 use Rattle.sync.specs.Tails.{tail_of}
 use Rattle.radio.specs.declared.Reception.{Reception}
 use Rattle.radio.specs.KindParts.{line_of, format_of}
 
-unfoldable pub after_words : LineCode → List ℕ → ℕ → ℕ → List ℕ → Outcome Reception → Outcome Reception
+abbrev pub reception : Kind → ℕ → ℕ → ℕ → ℕ → Reception
+reception k place t z n = record { kind = k; place = place; tried = t; size = z; n = n }
+
+unfoldable pub after_words : LineCode → List ℕ → ℕ → ℕ → List ℕ → Outcome (Result Reception Refusal)
+    → Outcome (Result Reception Refusal)
 after_words κ s at n d next =
     cond (in_range s at)
-    (cond (ltb (chip_count s) (at + chips_in κ n)) (leaving (Reception.Refused Refusal.Short) d)
+    (cond (ltb (chip_count s) (at + chips_in κ n)) (leaving (Err Refusal.Short) d)
     (cond (ltb (good_run (value_at κ s at) (words_in κ n)) (words_in κ n))
-    (leaving (Reception.Refused (Refusal.BadWord (good_run (value_at κ s at) (words_in κ n)))) d)
+    (leaving (Err (Refusal.BadWord (good_run (value_at κ s at) (words_in κ n)))) d)
     next))
-    (leaving (Reception.Refused Refusal.OutOfRange) d)
+    (leaving (Err Refusal.OutOfRange) d)
 
-abbrev pub by_frame : Kind → ℕ → ℕ → List ℕ → Frame → Outcome Reception
-by_frame k place t m (Frame.Accepted z n) = record { answer = Reception.Accepted k place t z n; memory = m }
-by_frame k place t m (Frame.Refused r) = leaving (Reception.Refused r) m
+abbrev pub by_frame : Kind → ℕ → ℕ → List ℕ → Result Frame Refusal → Outcome (Result Reception Refusal)
+by_frame k place t m (Ok f) = leaving (Ok (reception k place t f.size f.n)) m
+by_frame k place t m (Err r) = leaving (Err r) m
 
 abbrev pub length_at : LineCode → List ℕ → ℕ → ℕ
 length_at κ s at = get_or (decoding κ s at 1) 0 0
 
-unfoldable pub by_size : Kind → ℕ → ℕ → List ℕ → List ℕ → Frame → Outcome Reception
-by_size k place t s d (Frame.Accepted z n) =
-    let o = reading_of (format_of k) (decoding (line_of k) s (place + lead_of k) z) d in
-    after_words (line_of k) s (place + lead_of k) z d (by_frame k place t o.memory o.answer)
-by_size k place t s d (Frame.Refused r) = leaving (Reception.Refused r) d
+unfoldable pub by_size : Kind → ℕ → ℕ → List ℕ → List ℕ → Result Frame Refusal → Outcome (Result Reception Refusal)
+by_size k place t s d (Ok f) =
+    let o = reading_of (format_of k) (decoding (line_of k) s (place + lead_of k) f.size) d in
+    after_words (line_of k) s (place + lead_of k) f.size d (by_frame k place t o.memory o.answer)
+by_size k place t s d (Err r) = leaving (Err r) d
 
-unfoldable pub frame_after : Kind → ℕ → ℕ → List ℕ → List ℕ → Outcome Reception
+unfoldable pub frame_after : Kind → ℕ → ℕ → List ℕ → List ℕ → Outcome (Result Reception Refusal)
 frame_after k place t s d =
     after_words (line_of k) s (place + lead_of k) 1 d
     (by_size k place t s d (size_for (format_of k) (length_at (line_of k) s (place + lead_of k))))
 
-unfoldable pub by_tail : ℕ → ℕ → List ℕ → List ℕ → Tail → Outcome Reception
-by_tail place t s d (Tail.Begins k) = frame_after k place t s d
-by_tail place t s d (Tail.Refused r) = leaving (Reception.Refused r) d
+unfoldable pub by_tail : ℕ → ℕ → List ℕ → List ℕ → Result Kind Refusal → Outcome (Result Reception Refusal)
+by_tail place t s d (Ok k) = frame_after k place t s d
+by_tail place t s d (Err r) = leaving (Err r) d
 
-unfoldable pub by_sync : List ℕ → List ℕ → Sync → Outcome Reception
-by_sync s d (Sync.Found place t) = by_tail place t s d (tail_of s place)
-by_sync s d (Sync.Refused r) = leaving (Reception.Refused r) d
+unfoldable pub by_sync : List ℕ → List ℕ → Result Found Refusal → Outcome (Result Reception Refusal)
+by_sync s d (Ok f) = by_tail f.place f.tried s d (tail_of s f.place)
+by_sync s d (Err r) = leaving (Err r) d
 
-unfoldable pub reception_of : List ℕ → ℕ → ℕ → List ℕ → Outcome Reception
+unfoldable pub reception_of : List ℕ → ℕ → ℕ → List ℕ → Outcome (Result Reception Refusal)
 reception_of s start a d = by_sync s d (search_of s start a)
 
-abbrev pub manchester_of : List ℕ → ℕ → List ℕ → Outcome Reception
+abbrev pub manchester_of : List ℕ → ℕ → List ℕ → Outcome (Result Reception Refusal)
 manchester_of s start d = frame_after ManchesterWithA start 0 s d

@@ -8,10 +8,9 @@
 --     sent_chips k n       how many chips they are for n bytes of content, the unused ones of the last byte not counted
 --     SentAt k s place c  the chips of s from `place` on are those that sending c as kind k writes
 -- SentAt says nothing of how chips are received: "accepted exactly when" is measured by it.
-use Rattle.std.specs.Prelude.{cond, List, ◌++◌, ◌≡◌, ℕ, ◌+◌, ◌≤◌, ◌<◌, ltb, length, drop, get_or}
+use Rattle.std.specs.Prelude.{cond, List, ◌++◌, ◌≡◌, ℕ, ◌+◌, ◌≤◌, ◌<◌, ltb, length, drop, get_or, Result, Ok, Err}
 use Rattle.answers.specs.Outcome.{Outcome, leaving}
 use Rattle.answers.specs.declared.Refusal.{Refusal}
-use Rattle.answers.specs.declared.Written.{Written}
 use Rattle.chips.specs.Chips.{chip_at, chip_count}
 use Rattle.line.specs.Codes.{chips_in}
 use Rattle.line.specs.Encoding.{encoding, encoded_size}
@@ -27,19 +26,19 @@ air_of k p = sync_bytes k ++ encoding (line_of k) p
 abbrev pub air_size : Kind → ℕ → ℕ
 air_size k z = length (sync_bytes k) + encoded_size (line_of k) z
 
-unfoldable pub putting : Kind → List ℕ → List ℕ → Outcome Written
+unfoldable pub putting : Kind → List ℕ → List ℕ → Outcome (Result ℕ Refusal)
 putting k p d =
-    cond (ltb (length d) (air_size k (length p))) (leaving (Written.Refused Refusal.NoRoom) d)
+    cond (ltb (length d) (air_size k (length p))) (leaving (Err Refusal.NoRoom) d)
     (record {
-      answer = Written.Accepted (air_size k (length p));
+      answer = Ok (air_size k (length p));
       memory = air_of k p ++ drop (air_size k (length p)) d;
     })
 
-unfoldable pub sending_of : Kind → List ℕ → List ℕ → Outcome Written
+unfoldable pub sending_of : Kind → List ℕ → List ℕ → Outcome (Result ℕ Refusal)
 sending_of k c d =
     cond (within (form_of (format_of k)).shortest (form_of (format_of k)).longest (length c))
     (putting k (frame_of (format_of k) c) d)
-    (leaving (Written.Refused Refusal.BadContent) d)
+    (leaving (Err Refusal.BadContent) d)
 
 abbrev pub sent_of : Kind → List ℕ → List ℕ
 sent_of k c = air_of k (frame_of (format_of k) c)

@@ -1,13 +1,7 @@
 -- The division in place: `Dividing` is its state, with start, turn and end.
 -- Assumes nothing.
-use mathlib.Core.List.{List, ◌∷◌}
-use mathlib.Core.Path.{◌≡◌, refl, sym, ap, ap₂, ◌∙◌}
-use Prim.Native.Nat.{ℕ, ◌+◌, ◌≤◌, ◌<◌}
-use native.Mathlib.Numerals.{add-one}
-use native.Mathlib.Omega.{arith}
-use lib.Bits.{bit_xor}
-use lib.ListN.{length, get_or, drop, set}
-use lib.Seq.{drop-cons, drop-drop, get_or-drop}
+use Rattle.std.proofs.Common.{List, ◌∷◌, ◌≡◌, refl, sym, ap, ap₂, ◌∙◌, ℕ, ◌+◌, ◌≤◌, ◌<◌, add-one, arith, bit_xor}
+use Rattle.std.proofs.Common.{length, get_or, drop, set, drop-cons, drop-drop, get_or-drop}
 use Rattle.ground.proofs.InPlaceLaws.{elements, InPlace, in_place_start, in_place_next, in_place_end}
 use Rattle.field.specs.Field.{mul}
 use Rattle.locators.specs.Inner.{partials, quotient}

@@ -5,13 +5,9 @@
 --     RightOrZero    but for one place, each byte is right or a polynomial is 0 at its locator
 --     error_right    a number that a quotient of the locator tells of a place is the byte there
 -- Assumes nothing.
-use mathlib.Core.List.{List}
-use mathlib.Core.Logic.{◌⊎◌}
-use mathlib.Core.Path.{◌≡◌, refl, sym, ap, ap₂, subst, ◌∙◌}
-use Prim.Native.Nat.{ℕ, suc, ◌+◌, ◌-◌, ◌*◌, ◌≤◌, ◌<◌}
-use native.Mathlib.Omega.{arith}
-use lib.Bits.{bit_xor, xor_lt, xor_self, xor_zero_r}
-use lib.ListN.{length, get_or}
+use Rattle.std.proofs.Common.{List, ◌⊎◌, ◌≡◌, refl, sym, ap, ap₂, subst, ◌∙◌, ℕ, suc, ◌+◌, ◌-◌, ◌*◌, ◌≤◌, ◌<◌, arith}
+use Rattle.std.proofs.Common.{bit_xor, length, get_or}
+use lib.Bits.{xor_lt, xor_self, xor_zero_r}
 use Rattle.ground.specs.Bytes.{Bytes}
 use Rattle.ground.specs.Sums.{xors}
 use Rattle.ground.proofs.ByteLaws.{bytes-set}

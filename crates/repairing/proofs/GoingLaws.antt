@@ -6,16 +6,13 @@
 --     going_on      it is, and its quotient is not: the byte is mended
 --     going_end     no place is left, or the locator is a constant
 -- Assumes nothing.
-use mathlib.Core.List.{List, [], ◌∷◌, ◌++◌}
-use mathlib.Core.Logic.{◌⊎◌, inl, inr, ⊎_elim}
-use mathlib.Core.Path.{◌≡◌, sym, ap, ap₂, subst, ◌∙◌}
-use Prim.Native.Nat.{ℕ, suc, ◌+◌, ◌-◌, ◌≤◌, ◌<◌}
-use native.Mathlib.Omega.{arith}
-use borrow.Author.Tests.{eqb-true, eqb-false, ltb-true, ltb-false}
-use lib.Bits.{bit_xor, xor_self}
-use lib.Dec.{eqb, ltb}
-use lib.ListN.{length, get_or, take, drop, length-set, length-append, length-drop, get_or-append}
-use lib.Seq.{take-suc, take_at, length-take-le, get_or-take, get_or-set_same, get_or-set_other, ext_get_or}
+use Rattle.std.proofs.Common.{List, [], ◌∷◌, ◌++◌, ◌⊎◌, inl, inr, ⊎_elim, ◌≡◌, sym, ap, ap₂, subst, ◌∙◌, ℕ, suc, ◌+◌}
+use Rattle.std.proofs.Common.{◌-◌, ◌≤◌, ◌<◌, arith, eqb-true, ltb-true, ltb-false, bit_xor, eqb, ltb, length, get_or}
+use Rattle.std.proofs.Common.{take, drop, length-set, length-append, length-drop, take-suc, take_at, length-take-le}
+use Rattle.std.proofs.Common.{get_or-take, get_or-set_same, get_or-set_other, ext_get_or}
+use borrow.Author.Tests.{eqb-false}
+use lib.Bits.{xor_self}
+use lib.ListN.{get_or-append}
 use Rattle.ground.specs.Apart.{apart}
 use Rattle.ground.specs.Bytes.{Bytes}
 use Rattle.ground.proofs.ApartLaws.{apart_comm, apart-set, apart_through}

@@ -1,15 +1,17 @@
 -- A word by its remainder: how the scan begins, and what comes out.
 --     scan_start    the state in which the scan begins, from a locator for the values of the word
+--     zeros_told    whether all values are 0, by comparing them with zeros
 --     repaired      what it leaves is the code word near, if its values are all 0; else none is near
 -- Assumes nothing.
-use mathlib.Core.Bool.{Bool, true, false, cond, false≢true}
-use mathlib.Core.List.{List}
-use mathlib.Core.Logic.{◌⊎◌, inl, inr, ⊎_elim}
-use mathlib.Core.Path.{◌≡◌, refl, sym, ap, ap₂, subst, ◌∙◌}
-use Prim.Native.Nat.{ℕ, suc, ◌+◌, ◌-◌, ◌≤◌, ◌<◌}
-use native.Mathlib.Omega.{arith}
-use lib.ListN.{length, get_or, take, drop, length-drop}
-use lib.Seq.{take_all, get_or-drop}
+use Rattle.std.proofs.Common.{Bool, true, false, cond, List, ◌⊎◌, inl, inr, ⊎_elim, ◌≡◌, refl, sym, ap, ap₂, subst, ◌∙◌}
+use Rattle.std.proofs.Common.{ℕ, suc, ◌+◌, ◌-◌, ◌≤◌, ◌<◌, arith, eqb, length, get_or, take, drop, replicate}
+use Rattle.std.proofs.Common.{length-drop, take_all, get_or-drop, ext_get_or}
+use Rattle.std.specs.Prelude.{◌↔◌}
+use mathlib.Core.Bool.{false≢true}
+use lib.ListN.{get_or-replicate}
+use Rattle.std.specs.Cmp.Lexicographic.{pointwise}
+use Rattle.std.proofs.lemmas.Bool.Decides.{Decides-eqb}
+use Rattle.std.proofs.lemmas.Slice.Eq.{slice_eq-Decides}
 use Rattle.ground.specs.Bytes.{Bytes}
 use Rattle.ground.proofs.ApartLaws.{apart_self}
 use Rattle.ground.proofs.ByteLaws.{bytes_take, bytes_drop}
@@ -23,10 +25,14 @@ use Rattle.locating.proofs.ReduceLaws.{combined_part}
 use Rattle.codewords.specs.CodeBlocks.{CodeBlock}
 use Rattle.proposals.specs.Near.{Near, nearest_of}
 use Rattle.proposals.proofs.NearestLaws.{near, nearest_is, nearest_near}
-use Rattle.repairing.specs.Inner.{Held, AllZero, Word, Coefficients, Going, Ended}
+use Rattle.repairing.specs.Inner.{Held, Word, Coefficients, Going, Ended}
 use Rattle.repairing.specs.Remains.{Remains}
 use Rattle.repairing.proofs.ErrorLaws.{errors, errors_count, errors_bytes, error_at, errors_values}
 use Rattle.repairing.proofs.GoingLaws.{word_of, going_of}
+
+-- r tells whether all of the values s are 0
+abbrev pub AllZero : List ℕ → Bool → Type 0
+AllZero s r = (r ≡ true) ↔ ((k : ℕ) → k < 32 → get_or s k 0 ≡ 0)
 
 -- ---- the beginning
 
@@ -100,6 +106,15 @@ word_start some most bytes remains held =
     (record { count = held.count; values = λ k h. held.values k h ∙ remains k h })
 
 -- ---- the outcome
+
+pub zeros_told : (s : List ℕ) {r : Bool} → length s ≡ 32 → r ≡ pointwise eqb s (replicate 32 0) → AllZero s r
+zeros_told s {r} count told =
+    let same = slice_eq-Decides Decides-eqb s (replicate 32 0) r told in (
+      λ t k h. ap (λ (l : List ℕ). get_or l k 0) (same.0 t) ∙ get_or-replicate 32 k 0 0 h,
+      λ z. same.1
+          (ext_get_or 0 s (replicate 32 0) count
+          (λ k h. z k (omega arith) ∙ sym (get_or-replicate 32 k 0 0 (omega arith)))),
+    )
 
 module _ {u w s : List ℕ} (bytes : Bytes u) (end : Ended u w s) where
   code : ((k : ℕ) → k < 32 → get_or s k 0 ≡ 0) → CodeBlock w

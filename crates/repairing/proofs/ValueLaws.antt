@@ -3,10 +3,7 @@
 --     first_term, next_term   what a byte adds to the value at the first root, and at the next one
 --     term_positive           nothing but 0 adds nothing
 -- Assumes nothing.
-use mathlib.Core.Path.{◌≡◌, sym, ap, ap₂, ◌∙◌}
-use Prim.Native.Nat.{ℕ, ◌+◌, ◌*◌, ◌%◌, ◌<◌}
-use native.Mathlib.Nat.{pos_of_ne-zero}
-use native.Mathlib.Omega.{arith}
+use Rattle.std.proofs.Common.{◌≡◌, sym, ap, ap₂, ◌∙◌, ℕ, ◌+◌, ◌*◌, ◌%◌, ◌<◌, pos_of_ne-zero, arith}
 use Rattle.field.specs.Field.{mul, alpha_to}
 use Rattle.field.proofs.FieldLaws as field
 use Rattle.field.proofs.PowerLaws.{alpha_to-lt, alpha_to-add, alpha_to-mod, power_cancel}

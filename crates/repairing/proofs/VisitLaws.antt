@@ -4,12 +4,8 @@
 --     again      it is, and so is its quotient
 --     moved_on   it is, and its quotient is not
 -- Assumes nothing.
-use mathlib.Core.List.{List, ◌++◌}
-use mathlib.Core.Path.{◌≡◌, refl, sym, ap, ap₂, subst, ◌∙◌}
-use Prim.Native.Nat.{ℕ, suc, ◌+◌, ◌-◌, ◌*◌, ◌%◌, ◌≤◌, ◌<◌}
-use native.Mathlib.Omega.{arith}
-use lib.ListN.{length, take, drop, length-append, length-drop}
-use lib.Seq.{take_at, length-take-le}
+use Rattle.std.proofs.Common.{List, ◌++◌, ◌≡◌, refl, sym, ap, ap₂, subst, ◌∙◌, ℕ, ◌+◌, ◌-◌, ◌*◌, ◌%◌, ◌<◌, arith}
+use Rattle.std.proofs.Common.{length, take, drop, length-append, length-drop, add-one, take_at, length-take-le}
 use Rattle.field.specs.Field.{alpha_to}
 use Rattle.field.specs.Polynomials.{value_at}
 use Rattle.field.proofs.PowerLaws.{alpha_to-mod}
@@ -19,7 +15,7 @@ use Rattle.locators.proofs.QuotientLaws.{length-partials}
 use Rattle.repairing.specs.Inner.{added, Followed, Tells, Going, Ready, Moves}
 use Rattle.repairing.proofs.GoingLaws.{at, going_skip, going_again, going_on}
 
-module _ {w s v : List ℕ} {d p : ℕ} (ready : Ready w s v d p) where
+module _ {w v : List ℕ} {d p : ℕ} (ready : Ready w v d p) where
   -- the locator of the place, as the code has it
   abbrev x : ℕ
   x = alpha_to (11 * p % 255)
@@ -27,15 +23,15 @@ module _ {w s v : List ℕ} {d p : ℕ} (ready : Ready w s v d p) where
   x_is : x ≡ step_to p
   x_is = sym (alpha_to-mod (11 * p))
 
-  value_is : {r : ℕ} → r ≡ value_at x (take (d + 1 - 0) v) → r ≡ at v d p
+  value_is : {r : ℕ} → r ≡ value_at x (take (d + 1) v) → r ≡ at v d p
   value_is told =
-      let e : d + 1 - 0 ≡ suc d = omega arith in
-      told ∙ ap₂ (λ (y n : ℕ). value_at y (take n v)) x_is e
+      told ∙ ap₂ (λ (y n : ℕ). value_at y (take n v)) x_is (add-one d)
 
-  inside : (u : List ℕ) → Going u w s v d p → p + 1 < length u
+  inside : {s : List ℕ} (u : List ℕ) → Going u w s v d p → p + 1 < length u
   inside u g = omega (arith, ready.inside, g.word.count)
 
-  pub skipped : {r : ℕ} → r ≡ value_at x (take (d + 1 - 0) v) → (r ≡ 0 → ⊥) → Moves w s v d p w s v d (p + 1)
+  pub skipped : {s : List ℕ} {r : ℕ} → r ≡ value_at x (take (d + 1) v) → (r ≡ 0 → ⊥)
+      → Moves w s v d p w s v d (p + 1)
   skipped told other =
       record {
         count = refl;
@@ -43,31 +39,24 @@ module _ {w s v : List ℕ} {d p : ℕ} (ready : Ready w s v d p) where
         goes = λ u g. going_skip g (inside u g) (λ z. other (value_is told ∙ z));
       }
 
-  module _ {r y : ℕ} {q v' : List ℕ} (told : r ≡ value_at x (take (d + 1 - 0) v)) (none : r ≡ 0)
-      (divided : q ≡ quotient x (take (d - 0) v)) (made : v' ≡ q ++ drop (d - 0) v)
-      (second : y ≡ value_at x (take (d - 0) v')) where
+  module _ {r y : ℕ} {q v' : List ℕ} (told : r ≡ value_at x (take (d + 1) v)) (none : r ≡ 0)
+      (divided : q ≡ quotient x (take d v)) (made : v' ≡ q ++ drop d v)
+      (second : y ≡ value_at x (take d v')) where
     zero_here : at v d p ≡ 0
     zero_here = sym (value_is told) ∙ none
 
     abbrev left : List ℕ
     left = quotient (step_to p) (take d v)
 
-    same : d - 0 ≡ d
-    same = omega arith
-
     made_is : v' ≡ left ++ drop d v
     made_is =
-        made ∙ ap₂ (λ (a b : List ℕ). a ++ b) (divided ∙ ap₂ (λ (z n : ℕ). quotient z (take n v)) x_is same)
-        (ap (λ (n : ℕ). drop n v) same)
+        made ∙ ap (λ (l : List ℕ). l ++ drop d v) (divided ∙ ap (λ (z : ℕ). quotient z (take d v)) x_is)
 
     count_left : length left ≡ d
     count_left = length-partials (step_to p) 0 (take d v) ∙ length-take-le d v (omega (arith, ready.room))
 
-    front : take (d - 0) v' ≡ left
-    front = ap₂ take same made_is ∙ take_at left (drop d v) d count_left
-
-    pub short_left : length (take (d - 0) v') ≤ 32
-    short_left = omega (arith, ap length front, count_left, ready.room, ready.short)
+    front : take d v' ≡ left
+    front = ap (take d) made_is ∙ take_at left (drop d v) d count_left
 
     second_is : y ≡ value_at (step_to p) left
     second_is = second ∙ ap₂ value_at x_is front
@@ -77,7 +66,7 @@ module _ {w s v : List ℕ} {d p : ℕ} (ready : Ready w s v d p) where
         let e : length left + length (drop d v) ≡ length v = omega (arith, count_left, length-drop d v, ready.room) in
         ap length made_is ∙ length-append left (drop d v) ∙ e
 
-    pub again : y ≡ 0 → Moves w s v d p w s v' (d - 1) p
+    pub again : {s : List ℕ} → y ≡ 0 → Moves w s v d p w s v' (d - 1) p
     again z =
         record {
           count = count_made;
@@ -85,14 +74,14 @@ module _ {w s v : List ℕ} {d p : ℕ} (ready : Ready w s v d p) where
           goes = λ u g. going_again g zero_here ready.some made_is (sym second_is ∙ z);
         }
 
-    goes_on : {e : ℕ} {w' s' : List ℕ} → 0 < y → y < 256 → Tells s (take (d - 0) v') y p e
+    goes_on : {e : ℕ} {s w' s' : List ℕ} → 0 < y → y < 256 → Tells s (take d v') y p e
         → w' ≡ added w (length w - 1 - p) e → Followed s p e s'
         → (u : List ℕ) → Going u w s v d p → Going u w' s' v' (d - 1) (p + 1)
-    goes_on {e} pos small tells mended follow u g =
+    goes_on {e} {s} pos small tells mended follow u g =
         going_on g zero_here ready.some made_is (inside u g) pos small second_is
         (subst (λ (l : List ℕ). Tells s l y p e) front tells) follow mended
 
-    pub moved_on : {e : ℕ} {w' s' : List ℕ} → 0 < y → y < 256 → Tells s (take (d - 0) v') y p e
+    pub moved_on : {e : ℕ} {s w' s' : List ℕ} → 0 < y → y < 256 → Tells s (take d v') y p e
         → w' ≡ added w (length w - 1 - p) e → Followed s p e s' → Moves w s v d p w' s' v' (d - 1) (p + 1)
     moved_on pos small tells mended follow =
         record {

@@ -3,14 +3,13 @@
 --     Held w s                 s are the values of w at the 32 roots
 --     term e p k               what e at place p adds to the value at root k
 --     Followed s p e t         t are the values s after e was added at place p
---     AllZero s r              r tells whether all of the values s are 0
 --     Tells s v y p e          e times y and the power of the locator is what v combines the values to
 --     Word u w s               u was received, w is what it is made to, its first byte the same, and s are its values
 --     Coefficients v d         v begins with the d + 1 coefficients of a polynomial, the first of them not 0
 --     Settled u w v d p        where a code word is near u, each byte of w is this one's, or its place is p or behind
 --                              it and the polynomial is 0 at its locator
 --     Going u w s v d p        the state of the scan; at most 16 bytes of u differ from w, those to come included
---     Ready w s v d p          what the scan of one place needs of it
+--     Ready w v d p            what the scan of one place needs of it
 --     Moves ..                 one place scanned: the state goes on
 --     Ended u w s              the scan is over: if a code word is near u, it is w
 use Rattle.std.specs.Prelude.{Bool, true, List, ◌⊎◌, ◌↔◌, ◌≡◌, ℕ, suc, ◌+◌, ◌-◌, ◌*◌, ◌≤◌, ◌<◌, length, get_or, set, take}
@@ -36,9 +35,6 @@ term e p k = mul e (alpha_to (11 * ((112 + k) * p)))
 pub record Followed (s : List ℕ) (p e : ℕ) (t : List ℕ) : Type 0 where
   pub count : length t ≡ 32
   pub values : (k : ℕ) → k < 32 → get_or t k 0 ≡ bit_xor (get_or s k 0) (term e p k)
-
-abbrev pub AllZero : List ℕ → Bool → Type 0
-AllZero s r = (r ≡ true) ↔ ((k : ℕ) → k < 32 → get_or s k 0 ≡ 0)
 
 pub record Tells (s v : List ℕ) (y p e : ℕ) : Type 0 where
   pub byte : e < 256
@@ -71,9 +67,8 @@ pub record Going (u w s v : List ℕ) (d p : ℕ) : Type 0 where
   pub place : p < length u
   pub settled : Settled u w v d p
 
-pub record Ready (w s v : List ℕ) (d p : ℕ) : Type 0 where
+pub record Ready (w v : List ℕ) (d p : ℕ) : Type 0 where
   pub most : length w ≤ 255
-  pub values : length s ≡ 32
   pub room : d < length v
   pub short : length v ≤ 17
   pub some : 0 < d

@@ -22,7 +22,7 @@ use Rattle.sessions.proofs.MetersInLaws.{meters_in_bytes, all_right_bytes}
 use Rattle.sessions.proofs.OnceLaws.{unlike_once}
 use Rattle.store.specs.declared.index.Index.{Index}
 use Rattle.store.specs.Inner.{held_by, MetersFrom, first_of, allowance_of}
-use Rattle.store.specs.Opened.{Opened}
+use Rattle.store.specs.InnerOpened.{Opened}
 
 -- the meters of a store that can stand in bytes, where they stand
 module _

@@ -14,7 +14,7 @@ use Rattle.sessions.specs.Meters.{Store}
 use Rattle.sessions.specs.StoreFile.{store_in, if_right}
 use Rattle.sessions.proofs.MetersInLaws.{length-meters_in}
 use Rattle.store.specs.declared.index.Index.{Index}
-use Rattle.store.specs.Opened.{BodyAt, Opened}
+use Rattle.store.specs.InnerOpened.{BodyAt, Opened}
 
 pub opened_body :
     (s : List ℕ) (k allowance : ℕ) (right : Bool) (o : Option Index) {r : Result Store Refusal} →

@@ -135,8 +135,7 @@ indexed_none s first =
     record { of_slot = λ h low. get_or-replicate 509 h 0 0 low; of_meter = λ j low. absurd (omega arith) }
 
 module _
-    (slots links s : List ℕ)
-    (first k : ℕ)
+    (slots links s : List ℕ) (first k : ℕ)
     (slots_size : length slots ≡ 509)
     (links_size : length links ≡ 64)
     (few : k < 64)

@@ -31,7 +31,7 @@ use Rattle.sessions.proofs.OnceLaws.{unlike_once}
 use Rattle.sessions.proofs.PutLaws.{meter_of-stranger}
 use Rattle.store.specs.declared.index.Index.{Index}
 use Rattle.store.specs.Inner.{place_of, held_by, known_at}
-use Rattle.store.specs.Opened.{Opened}
+use Rattle.store.specs.InnerOpened.{Opened}
 use Rattle.store.proofs.PlaceLaws.{place_of_le, place_of_held, place_of_none, meter_of_place_of}
 use Rattle.store.proofs.PutBytesLaws.{leaves_put}
 

@@ -36,7 +36,8 @@ unsure_bytes :
     (t : List ℕ) → Bytes t → 20 ≤ length t → right_meter t ≡ true
     → take 19 t ++ (1 ∷ []) ≡ meter_bytes (merged (stranger (meter_in t).address) (meter_in t))
 unsure_bytes t bytes room right =
-    rw (take-take 19 20 t (omega arith)) at (ap (λ (u : List ℕ). take 19 u ++ (1 ∷ [])) (take-meter_bytes t bytes room right))
+    rw (take-take 19 20 t (omega arith)) at
+    (ap (λ (u : List ℕ). take 19 u ++ (1 ∷ [])) (take-meter_bytes t bytes room right))
     ∙ rw (max_none (meter_in t).number)
 
 pub record Merge (s : List ℕ) (count : ℕ) (file : List ℕ) (first n : ℕ) : Type 0 where
@@ -81,8 +82,7 @@ module _ {s : List ℕ} {count : ℕ} {file : List ℕ} {first n : ℕ} (m : Mer
         let fit = rw known at (all_fit_meter_of a R (key_at_lt file m.file_bytes (first + 20 * i + 1)) all_fit) in
         meter_in-merging s R (room_at (omega arith)) (place_of a R) (stranger a) (held-lt held) fit ∙ sym known
 
-    stranger_new :
-        count ≤ place_of (address_at file first i) (restored_to s count file first i)
+    stranger_new : count ≤ place_of (address_at file first i) (restored_to s count file first i)
         → stranger (meter_in (drop (first + 20 * i) file)).address
         ≡ meter_of (address_at file first i) (restored_to s count file first i)
     stranger_new new =
@@ -111,8 +111,7 @@ module _ {s : List ℕ} {count : ℕ} {file : List ℕ} {first n : ℕ} (m : Mer
             ∙ (merging_put s R (room_at (omega arith)) a new (omega (arith, m.room, place-lt))
             ∙ ap (merging s) (rw is (sym (restored_to-suc s count file first i)))))
 
-        pub merge_held :
-            p < count → let own = meter_in (drop (8 + 20 * p) t) in
+        pub merge_held : p < count → let own = meter_in (drop (8 + 20 * p) t) in
             sets t (8 + 20 * p) (meter_bytes (merged own (meter_in (drop (first + 20 * i) file))))
             ≡ merging s (restored_to s count file first (suc i))
         merge_held held =

@@ -26,11 +26,16 @@ use Rattle.sessions.specs.StoreFile.{meter_bytes, meter_in, meters_in, memory_of
 use Rattle.sessions.specs.StoreCalls.{◌and_then◌, kept, storing, adding, hearing_in, issuing, looking_up, found}
 use Rattle.sessions.proofs.PutLaws.{meter_of_put, meter_of-address}
 use Rattle.store.specs.declared.index.Index.{Index}
-use Rattle.store.specs.Inner.{place_of, FoundAt, known_at, with_number}
-use Rattle.store.specs.Opened.{Opened}
+use Rattle.store.specs.Inner.{place_of, FoundAt, known_at}
+use Rattle.store.specs.InnerOpened.{Opened}
 use Rattle.store.proofs.HeldLaws.{found_place, not_found}
 use Rattle.store.proofs.PutBytesLaws.{length_put}
 use Rattle.store.proofs.KeptLaws.{Kept, opened_kept, at_place, held, none, meter_there, memory_put, meter_known}
+
+-- m with the number n
+abbrev pub with_number : ℕ → Meter → Meter
+with_number n m =
+    record { address = m.address; mode = m.mode; format = m.format; number = n; unsure = m.unsure }
 
 -- what the code leaves where it puts m at the place p
 abbrev pub put_at : List ℕ → ℕ → ℕ → Meter → List ℕ

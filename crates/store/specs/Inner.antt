@@ -9,7 +9,6 @@
 --                                meter the one before it in its slot
 --     held_by r           how many meters are held, or the refusal
 --     known_at s count place a    the meter at a place of the memory s, or a stranger where it has no such place
---     with_number n m     m with the number n
 --     MetersFrom first n s       n meters stand in s from `first` on, none of them twice
 --     first_of file, allowance_of file    where the meters of a file begin, and its allowance
 --     restored_to s count file first i    the meters of the memory s after the first i of a file
@@ -53,10 +52,6 @@ held_by (Ok st) = Ok (length st.meters)
 
 abbrev pub known_at : List ℕ → ℕ → ℕ → ℕ → Meter
 known_at s count place a = cond (ltb place count) (meter_in (drop (8 + 20 * place) s)) (stranger a)
-
-abbrev pub with_number : ℕ → Meter → Meter
-with_number n m =
-    record { address = m.address; mode = m.mode; format = m.format; number = n; unsure = m.unsure }
 
 pub record MetersFrom (first n : ℕ) (s : List ℕ) : Type 0 where
   pub few : n ≤ 64

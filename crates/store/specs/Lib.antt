@@ -1,2 +1,2 @@
 pub mod Inner
-pub mod Opened
+pub mod InnerOpened

@@ -2,7 +2,7 @@
 ghost use Rattle.std.specs.Prelude.{◌≡◌, ◌&&◌, ◌+◌, ◌≤◌, ◌<◌, length, get_or, MatchResult, IfOk};
 ghost use Rattle.sessions.specs.StoreFile.{right_body, whole, memory_of, file_of};
 ghost use Rattle.store.specs.Inner.{first_of};
-ghost use Rattle.store.specs.Opened.{BodyAt, Opened};
+ghost use Rattle.store.specs.InnerOpened.{BodyAt, Opened};
 
 use crate::index::{Index, LIMIT};
 use crate::meters::METER;

@@ -7,14 +7,15 @@ use mathlib.Core.Path.{◌≡◌, refl, ap, sym, ◌∙◌}
 use Prim.Native.Nat.{ℕ, ◌+◌, ◌*◌, ◌-◌, ◌/◌, ◌%◌, ◌^◌, ◌<◌, ◌≤◌}
 use native.Mathlib.Omega.{arith}
 use native.Mathlib.Nat.{mod-lt}
-use lib.Bits.{bit_and, bit_xor}
+use lib.Bits.{bit_and, bit_xor, xor_add_and}
+use Rattle.std.proofs.lemmas.Nat.{and_mask}
 use lib.Count.{count_leading_zeros, leading_le}
 use lib.Pow.{pow_pos}
 use Rattle.ground.proofs.BitLaws.{bit-mod, bit-shr, bit-shl, bit_and_lem, bit_not, bit_none, leading_none}
 use Rattle.sync.specs.SyncSearch.{sync_word}
 
 abbrev pub turned : ℕ → ℕ
-turned x = bit_xor x (2 ^ 64 - 1)
+turned x = 2 ^ 64 - 1 - x
 
 abbrev pub up : ℕ → ℕ → ℕ
 up x k = x * 2 ^ k % 2 ^ 64
@@ -27,6 +28,14 @@ zero_zero x = bit_and (turned x) (turned (up x 1))
 
 abbrev pub one_one : ℕ → ℕ
 one_one x = bit_and x (up x 1)
+
+-- `!x` adds up to all ones with x, as the pattern x, turned over by all ones, does
+turned_digit : (x m : ℕ) → x < 2 ^ 64 → m < 64 → x / 2 ^ m % 2 ≡ 0 → turned x / 2 ^ m % 2 ≡ 1
+turned_digit x m small l e =
+    let over : bit_xor x (2 ^ 64 - 1) + bit_and x (2 ^ 64 - 1) * 2 ≡ x + (2 ^ 64 - 1) = xor_add_and x (2 ^ 64 - 1) in
+    let all : bit_and x (2 ^ 64 - 1) ≡ x % 2 ^ 64 = and_mask x 64 in
+    let same : bit_xor x (2 ^ 64 - 1) ≡ turned x = omega arith in
+    rw same at (bit_not x 64 m l e)
 
 -- three pairs 01, then two 00, then two 11, then one more 01
 abbrev three_zero_one : ℕ → ℕ
@@ -45,7 +54,7 @@ marks x = bit_and (then_one_one x) (up (zero_one x) 14)
 abbrev sync_bit : ℕ → ℕ
 sync_bit m = sync_word / 2 ^ m % 2
 
-module _ (x q : ℕ) (h : q ≤ 48) (word : x / 2 ^ q % 65536 ≡ sync_word) where
+module _ (x q : ℕ) (small : x < 2 ^ 64) (h : q ≤ 48) (word : x / 2 ^ q % 65536 ≡ sync_word) where
   bit_sync : (m : ℕ) → m < 16 → x / 2 ^ (q + m) % 2 ≡ sync_bit m
   bit_sync m l = sym (bit-shr x q m) ∙ sym (bit-mod (x / 2 ^ q) 16 m l) ∙ ap (λ (y : ℕ). y / 2 ^ m % 2) word
 
@@ -64,7 +73,7 @@ module _ (x q : ℕ) (h : q ≤ 48) (word : x / 2 ^ q % 65536 ≡ sync_word) whe
       bit-shl y 64 k (q + 15) (omega arith) (omega arith) ∙ ap (λ (n : ℕ). y / 2 ^ n % 2) down ∙ e
 
   bit_turned : (m : ℕ) → m < 15 → sync_bit (m + 1) ≡ 0 → turned x / 2 ^ (q + (m + 1)) % 2 ≡ 1
-  bit_turned m l a = bit_not x 64 (q + (m + 1)) (omega arith) (bit_sync (m + 1) (omega arith) ∙ a)
+  bit_turned m l a = turned_digit x (q + (m + 1)) small (omega arith) (bit_sync (m + 1) (omega arith) ∙ a)
 
   bit-zero_one : (m : ℕ) → m < 15 → sync_bit (m + 1) ≡ 0 → sync_bit m ≡ 1 → zero_one x / 2 ^ (q + (m + 1)) % 2 ≡ 1
   bit-zero_one m l a b = bit_and_lem (turned x) (up x 1) (q + (m + 1)) (bit_turned m l a) (bit_up_sync m l ∙ b)
@@ -72,7 +81,7 @@ module _ (x q : ℕ) (h : q ≤ 48) (word : x / 2 ^ q % 65536 ≡ sync_word) whe
   bit-zero_zero : (m : ℕ) → m < 15 → sync_bit (m + 1) ≡ 0 → sync_bit m ≡ 0 → zero_zero x / 2 ^ (q + (m + 1)) % 2 ≡ 1
   bit-zero_zero m l a b =
       bit_and_lem (turned x) (turned (up x 1)) (q + (m + 1)) (bit_turned m l a)
-      (bit_not (up x 1) 64 (q + (m + 1)) (omega arith) (bit_up_sync m l ∙ b))
+      (turned_digit (up x 1) (q + (m + 1)) (mod-lt (x * 2 ^ 1) (pow_pos 64)) (omega arith) (bit_up_sync m l ∙ b))
 
   bit-one_one : (m : ℕ) → m < 15 → sync_bit (m + 1) ≡ 1 → sync_bit m ≡ 1 → one_one x / 2 ^ (q + (m + 1)) % 2 ≡ 1
   bit-one_one m l a b = bit_and_lem x (up x 1) (q + (m + 1)) (bit_sync (m + 1) (omega arith) ∙ a) (bit_up_sync m l ∙ b)
@@ -111,14 +120,14 @@ bit_leading : (y i : ℕ) → y < 2 ^ 64 → i < count_leading_zeros 64 y → y 
 bit_leading y i l h =
     bit_none y (64 - count_leading_zeros 64 y) (63 - i) (omega (arith, leading_le 64 y)) (leading_none y 64 l)
 
-module _ (x r i : ℕ) (inside : r + i ≤ 48) where
+module _ (x r i : ℕ) (small : x < 2 ^ 64) (inside : r + i ≤ 48) where
   -- the marks from place r on: where the word stands i places behind r there is one
   bit_up_marks : x / 2 ^ (48 - (r + i)) % 65536 ≡ sync_word → up (marks x) r / 2 ^ (63 - i) % 2 ≡ 1
   bit_up_marks e =
       let place : 63 - i - r ≡ 48 - (r + i) + 15 = omega arith in
       bit-shl (marks x) 64 r (63 - i) (omega arith) (omega arith)
       ∙ ap (λ (n : ℕ). marks x / 2 ^ n % 2) place
-      ∙ bit_marks x (48 - (r + i)) (omega arith) e
+      ∙ bit_marks x (48 - (r + i)) small (omega arith) e
 
   pub unmarked_run : i < count_leading_zeros 64 (up (marks x) r) → x / 2 ^ (48 - (r + i)) % 65536 ≡ sync_word → ⊥
   unmarked_run h e =

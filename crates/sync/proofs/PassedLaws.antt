@@ -1,6 +1,6 @@
 -- The count of places before the first at which a test f holds (specs/SyncSearch).
 --     Missed f k m              f holds at none of the m places from k on
---     missed-add, -suc          a run of places, and a second run, or one more place, behind it
+--     missed-add                a run of places, and a second run behind it
 --     passed_stands, -misses    f holds at the place where the count stops short, and at none that it passed over
 --     passed_first, -none       the count is settled by these two
 --     passed_same               it goes by what f says at these places, wherever they stand
@@ -38,9 +38,6 @@ module _ (f : ℕ → Bool) where
       let past : a ≤ j = ltb-false j a e in
       let place : k + j ≡ k + a + (j - a) = omega arith in
       rw place (rest (j - a) (omega arith)))
-
-  pub missed-suc : (k a : ℕ) → Missed f k a → f (k + a) ≡ false → Missed f k (a + 1)
-  missed-suc k a first e = missed-add k a 1 first (λ j l. let here : k + a + j ≡ k + a = omega arith in rw here e)
 
   -- it stopped before the end: there f holds
   pub passed_stands : (k m : ℕ) → passed f k m < m → f (k + passed f k m) ≡ true

@@ -14,14 +14,15 @@ use native.Mathlib.Omega.{arith}
 use borrow.Author.Tests.{lt-ltb, le-ltb, le-leb, lt-leb, ltb-true, ltb-false, leb-true, leb-false, eqb-true, eqb-false, eq-eqb, ne_eqb}
 use lib.Dec.{ltb, leb}
 use lib.ListN.{length}
+use Rattle.std.specs.Prelude.{Result, Ok, Err}
+use Rattle.answers.specs.declared.Refusal.{Refusal}
 use Rattle.answers.specs.declared.Refusal.TheVariants.{NoSync, UsedUp, OutOfRange}
 use Rattle.ground.proofs.CaseLaws.{by_test}
 use Rattle.chips.specs.Chips.{word_at, room_limit, in_range}
 use Rattle.chips.proofs.RangeLaws.{InBuffer, in_range_inside}
-use Rattle.sync.specs.SyncSearch.{passed, stands_at, positions, answer_after, search_for}
+use Rattle.sync.specs.SyncSearch.{passed, stands_at, positions, found, answer_after, search_for}
 use Rattle.sync.specs.FirstMatch.{FirstAt}
-use Rattle.sync.specs.declared.Sync.{Sync}
-use Rattle.sync.specs.declared.Sync.TheVariants.{Found, Refused}
+use Rattle.sync.specs.declared.Found.{Found}
 use Rattle.sync.proofs.PassedLaws.{passed_stands, passed_misses, passed_first, passed_none}
 
 abbrev pub Nowhere : ℕ → ℕ → List ℕ → ℕ → ℕ → Type 0
@@ -39,17 +40,17 @@ module _ {v w : ℕ} {s : List ℕ} {start a p m i : ℕ} (q : Scanned v w s sta
   unfolding search_for
   search_for_after = rw (in_range_inside q.within, ← q.there, ← q.most, ← q.over)
 
-  pub search_for_found : i < m → search_for v w s start a ≡ Found (start + i) (i + 1)
+  pub search_for_found : i < m → search_for v w s start a ≡ Ok (found (start + i) (i + 1))
   search_for_found l = search_for_after ∙ rw (← q.most, lt-ltb i m l)
 
-  pub search_for-all : m ≤ i → p ≤ a → search_for v w s start a ≡ Refused (NoSync p)
+  pub search_for-all : m ≤ i → p ≤ a → search_for v w s start a ≡ Err (NoSync p)
   search_for-all l k = search_for_after ∙ rw (← q.most, le-ltb i m l, le-leb p a k)
 
-  pub search_for_used : m ≤ i → a < p → search_for v w s start a ≡ Refused (UsedUp a)
+  pub search_for_used : m ≤ i → a < p → search_for v w s start a ≡ Err (UsedUp a)
   search_for_used l k = search_for_after ∙ rw (← q.most, le-ltb i m l, lt-leb p a k)
 
 module _ (v w : ℕ) (s : List ℕ) (start a : ℕ) where
-  pub search_for_outside : in_range s start ≡ false → search_for v w s start a ≡ Refused OutOfRange
+  pub search_for_outside : in_range s start ≡ false → search_for v w s start a ≡ Err OutOfRange
   unfolding search_for
   search_for_outside e = rw e
 
@@ -63,11 +64,11 @@ module _ (v w : ℕ) (s : List ℕ) (start a : ℕ) where
   abbrev pub gone : ℕ
   gone = passed (stands_at v w s) start most
 
-  pub data Ends : Sync → Type 0 where
-    outside : in_range s start ≡ false → Ends (Refused OutOfRange)
-    stops : in_range s start ≡ true → gone < most → Ends (Found (start + gone) (gone + 1))
-    tries_all : in_range s start ≡ true → most ≤ gone → there ≤ a → Ends (Refused (NoSync there))
-    tries_some : in_range s start ≡ true → most ≤ gone → a < there → Ends (Refused (UsedUp a))
+  pub data Ends : Result Found Refusal → Type 0 where
+    outside : in_range s start ≡ false → Ends (Err OutOfRange)
+    stops : in_range s start ≡ true → gone < most → Ends (Ok (found (start + gone) (gone + 1)))
+    tries_all : in_range s start ≡ true → most ≤ gone → there ≤ a → Ends (Err (NoSync there))
+    tries_some : in_range s start ≡ true → most ≤ gone → a < there → Ends (Err (UsedUp a))
 
   answer_ends : in_range s start ≡ true → Ends (answer_after start a there gone)
   answer_ends inside =
@@ -101,10 +102,10 @@ module _ (v w : ℕ) (s : List ℕ) (start a : ℕ) where
         allowed = omega arith;
       }
 
-  found_end : {k t : ℕ} → Ends (Found k t) → FirstAt v w s start a k t
+  found_end : {k t : ℕ} → Ends (Ok (found k t)) → FirstAt v w s start a k t
   found_end (stops inside l) = passed-lt_first l
 
-  pub found_first : (k t : ℕ) → search_for v w s start a ≡ Found k t → FirstAt v w s start a k t
+  pub found_first : (k t : ℕ) → search_for v w s start a ≡ Ok (found k t) → FirstAt v w s start a k t
   found_first k t e = found_end (rw e at search_for_ends)
 
   passed_to : {k t : ℕ} → FirstAt v w s start a k t → k - start ≡ gone
@@ -114,24 +115,26 @@ module _ (v w : ℕ) (s : List ℕ) (start a : ℕ) where
       sym (passed_first (stands_at v w s) start most (k - start) (omega (arith, f)) stands
       (λ j l. ne_eqb (word_at s (start + j) w) v (f.first (start + j) (omega arith) (omega arith))))
 
-  pub first_found : (k t : ℕ) → length s ≤ room_limit → FirstAt v w s start a k t → search_for v w s start a ≡ Found k t
+  pub first_found :
+      (k t : ℕ) → length s ≤ room_limit → FirstAt v w s start a k t
+      → search_for v w s start a ≡ Ok (found k t)
   first_found k t h f =
       let here : start + (k - start) ≡ k = omega (arith, f) in
       let tried : k - start + 1 ≡ t = omega (arith, f) in
       let in_buffer : InBuffer s start = record { small = h; inside = omega (arith, f) } in
       search_for_found (passed_scanned in_buffer (passed_to f)) (omega (arith, f)) ∙ rw (here, tried)
 
-  nosync_end : {t : ℕ} → Ends (Refused (NoSync t)) → (t ≡ there) × ((t ≤ a) × Nowhere v w s start t)
+  nosync_end : {t : ℕ} → Ends (Err (NoSync t)) → (t ≡ there) × ((t ≤ a) × Nowhere v w s start t)
   nosync_end (tries_all inside l h) = (refl, (h, λ j b m. nowhere_passed j b (omega arith)))
 
-  pub nosync_nowhere : (t : ℕ) → search_for v w s start a ≡ Refused (NoSync t)
+  pub nosync_nowhere : (t : ℕ) → search_for v w s start a ≡ Err (NoSync t)
       → (t ≡ positions w s start) × ((t ≤ a) × Nowhere v w s start t)
   nosync_nowhere t e = nosync_end (rw e at search_for_ends)
 
-  usedup_end : {t : ℕ} → Ends (Refused (UsedUp t)) → (t ≡ a) × ((a < there) × Nowhere v w s start t)
+  usedup_end : {t : ℕ} → Ends (Err (UsedUp t)) → (t ≡ a) × ((a < there) × Nowhere v w s start t)
   usedup_end (tries_some inside l h) = (refl, (h, λ j b m. nowhere_passed j b (omega arith)))
 
-  pub usedup_nowhere : (t : ℕ) → search_for v w s start a ≡ Refused (UsedUp t)
+  pub usedup_nowhere : (t : ℕ) → search_for v w s start a ≡ Err (UsedUp t)
       → (t ≡ a) × ((a < positions w s start) × Nowhere v w s start t)
   usedup_nowhere t e = usedup_end (rw e at search_for_ends)
 
@@ -141,13 +144,13 @@ module _ (v w : ℕ) (s : List ℕ) (start a : ℕ) where
       (λ j l. ne_eqb (word_at s (start + j) w) v (miss (start + j) (omega arith) (omega arith)))
 
   pub nowhere_nosync : InBuffer s start → positions w s start ≤ a → Nowhere v w s start (positions w s start)
-      → search_for v w s start a ≡ Refused (NoSync (positions w s start))
+      → search_for v w s start a ≡ Err (NoSync (positions w s start))
   nowhere_nosync within l miss =
       let m : most ≡ there = omega arith in
       search_for-all (passed_scanned within (sym (passed_nowhere (rw m miss)))) (omega arith) l
 
   pub nowhere_usedup : InBuffer s start → a < positions w s start → Nowhere v w s start a
-      → search_for v w s start a ≡ Refused (UsedUp a)
+      → search_for v w s start a ≡ Err (UsedUp a)
   nowhere_usedup within l miss =
       let m : most ≡ a = omega arith in
       search_for_used (passed_scanned within (sym (passed_nowhere (rw m miss)))) (omega arith) l

@@ -5,13 +5,12 @@
 use mathlib.Core.List.{List, [], ◌∷◌, map}
 use mathlib.Core.Path.{◌≡◌, refl}
 use Prim.Native.Nat.{ℕ}
+use Rattle.std.specs.Prelude.{Ok, Err}
 use Rattle.answers.specs.declared.Refusal.TheVariants.{Short, NoSync, UnknownTail, OutOfRange, UsedUp}
 use Rattle.chips.specs.Chips.{gather}
-use Rattle.sync.specs.SyncSearch.{passed, search_for, search_of}
+use Rattle.sync.specs.SyncSearch.{found, passed, search_for, search_of}
 use Rattle.sync.specs.Tails.{tail_of}
 use Rattle.sync.specs.declared.Kind.TheVariants.{TWithA, CWithA, CWithB}
-use Rattle.sync.specs.declared.Sync.{Sync}
-use Rattle.sync.specs.declared.Tail.{Tail}
 
 -- the sync word 543Dh at place 0, and two bytes behind it
 abbrev behind : ℕ → ℕ → List ℕ
@@ -22,15 +21,15 @@ pub tail_of_worked :
     map (λ s. tail_of s 0)
     (behind 0x54 0xCD ∷ behind 0x54 0x3D ∷ behind 0x54 0xCC ∷ behind 0x55 0xCD ∷ behind 0x57 0x3D ∷ behind 0x5A 0x97
     ∷ (0x54 ∷ 0x3D ∷ 0x54 ∷ []) ∷ [])
-    ≡ Tail.Begins CWithA ∷ Tail.Begins CWithB ∷ Tail.Refused (UnknownTail 0) ∷ Tail.Refused (UnknownTail 0)
-    ∷ Tail.Refused (UnknownTail 0) ∷ Tail.Begins TWithA ∷ Tail.Refused Short ∷ []
+    ≡ Ok CWithA ∷ Ok CWithB ∷ Err (UnknownTail 0) ∷ Err (UnknownTail 0)
+    ∷ Err (UnknownTail 0) ∷ Ok TWithA ∷ Err Short ∷ []
 unfolding tail_of gather
 tail_of_worked = refl
 
 -- four chips 0, then 543Dh 54CDh, then 543Dh 54CCh
 pub tail_of_moved :
     map (λ s. tail_of s 4) ((0x05 ∷ 0x43 ∷ 0xD5 ∷ 0x4C ∷ 0xD0 ∷ []) ∷ (0x05 ∷ 0x43 ∷ 0xD5 ∷ 0x4C ∷ 0xC0 ∷ []) ∷ [])
-    ≡ Tail.Begins CWithA ∷ Tail.Refused (UnknownTail 4) ∷ []
+    ≡ Ok CWithA ∷ Err (UnknownTail 4) ∷ []
 unfolding tail_of gather
 tail_of_moved = refl
 
@@ -41,7 +40,7 @@ chips = 0x05 ∷ 0x43 ∷ 0xD0 ∷ 0x00 ∷ 0x00 ∷ []
 pub search_of_worked :
     search_of chips 0 5 ∷ search_of chips 0 4 ∷ search_of chips 4 1 ∷ search_of chips 5 20 ∷ search_of chips 5 19
     ∷ search_of chips 40 1 ∷ search_of chips 41 1 ∷ []
-    ≡ Sync.Found 4 5 ∷ Sync.Refused (UsedUp 4) ∷ Sync.Found 4 1 ∷ Sync.Refused (NoSync 20) ∷ Sync.Refused (UsedUp 19)
-    ∷ Sync.Refused (NoSync 0) ∷ Sync.Refused OutOfRange ∷ []
+    ≡ Ok (found 4 5) ∷ Err (UsedUp 4) ∷ Ok (found 4 1) ∷ Err (NoSync 20) ∷ Err (UsedUp 19)
+    ∷ Err (NoSync 0) ∷ Err OutOfRange ∷ []
 unfolding search_for passed gather
 search_of_worked = refl

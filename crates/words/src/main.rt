@@ -5,7 +5,7 @@
 // Standard input: one letter, N for NRZ, M for Manchester or T for three-of-six; the chip to start at, as eight bytes,
 // highest first; then the chips, up to the end of the input.
 //     A capital letter: each word has a reader of its own, made where the last one stopped (`chipreader::first`).
-//     A small letter: one place is kept (`chipreader::start`, `chipreader::step`) and asked once more after the refusal
+//     A small letter: one place is kept (`Place::start`, `Place::step`) and asked once more after the refusal
 //     that ends it.
 // Standard output: the line `number place value`, then these three for each word that was asked for. The number is the
 // answer's; the place is the chip behind an accepted word, or the chip where the reader stays at a refusal; the value
@@ -16,7 +16,7 @@ ghost use Rattle.std.specs.Prelude.{◌<◌, length, take, IfOk};
 ghost use Rattle.std.specs.Io.{ReadsAtMost};
 ghost use Rattle.std.specs.Io.KnownBytes.{Consumes, IsAtEnd};
 
-use chipreader::{Answer, Place};
+use chipreader::Place;
 use line::Code;
 use std::io;
 use std::io::Read;
@@ -27,10 +27,22 @@ const CHIPS: usize = 9;
 // A reader is asked for at most so many words: 4,096 of two chips each in the longest buffer, and the refusal.
 const MOST: usize = 4097;
 
+// What a letter asks for: the line code, and whether one reader keeps its place.
 #[derive(Clone, Copy)]
-enum Input {
-    Reader(Code, bool),
-    NoSuch,
+struct Request {
+    code: Code,
+    kept: bool,
+}
+
+fn asked(letter: u8) -> Option<Request> {
+    let code = match letter.to_ascii_lowercase() {
+        b'n' => Code::Nrz,
+        b'm' => Code::Manchester,
+        b't' => Code::ThreeOfSix,
+        _ => return None,
+    };
+    let kept = letter.is_ascii_lowercase();
+    Some(Request { code, kept })
 }
 
 // Reads until the buffer is full or the input ends, and answers how many bytes it put at the buffer's start. What an
@@ -41,6 +53,7 @@ fn read_full<R: Read>(input: &mut R, buffer: &mut [u8]) -> io::Result<usize>
     ensures end { IfOk result (λ n. n < length buffer.new → IsAtEnd (R.remaining input.new)) }
 {
     let mut done = 0;
+    // a `while`: each step is as long as what a read gave
     while done < buffer.len() {
         let n = input.read(&mut buffer[done..])?;
         if n == 0 {
@@ -51,34 +64,11 @@ fn read_full<R: Read>(input: &mut R, buffer: &mut [u8]) -> io::Result<usize>
     Ok(done)
 }
 
-// What a letter asks for: the line code, and whether one reader keeps its place.
-fn asked(letter: u8) -> Input {
-    match letter {
-        b'N' => Input::Reader(Code::Nrz, false),
-        b'M' => Input::Reader(Code::Manchester, false),
-        b'T' => Input::Reader(Code::ThreeOfSix, false),
-        b'n' => Input::Reader(Code::Nrz, true),
-        b'm' => Input::Reader(Code::Manchester, true),
-        b't' => Input::Reader(Code::ThreeOfSix, true),
-        _ => Input::NoSuch,
-    }
-}
-
-fn wide(x: u8) -> usize {
-    x as usize
-}
-
 // The chip to start at: the eight bytes behind the letter, highest first.
 fn start_in(input: &[u8; 1034]) -> usize {
-    let mut at = 0usize;
-    for k in 1..CHIPS {
-        at = (at << 8) | wide(input[k]);
-    }
-    at
-}
-
-fn print_line(rt: &impl Print, number: u8, at: usize, value: usize) -> io::Result<()> {
-    println!(rt; "{number} {at} {value}")
+    let mut start = [0u8; 8];
+    start.copy_from_slice(&input[1..CHIPS]);
+    usize::from_be_bytes(start)
 }
 
 // The line of a place; answers whether a word was accepted there.
@@ -86,13 +76,13 @@ fn print_place(rt: &impl Print, place: Place) -> io::Result<bool> {
     let at = place.at;
     match place.answer {
         // no word was asked for: never so behind one
-        Answer::Ready => Ok(false),
-        Answer::Accepted(x) => {
-            print_line(rt, 0, at, wide(x))?;
+        None => Ok(false),
+        Some(Ok(x)) => {
+            println!(rt; "0 {at} {x}")?;
             Ok(true)
         }
-        Answer::Refused(r) => {
-            print_line(rt, answers::number(r), at, answers::value(r))?;
+        Some(Err(r)) => {
+            println!(rt; "{} {at} {}", r.number(), r.value())?;
             Ok(false)
         }
     }
@@ -113,29 +103,23 @@ fn print_anew(rt: &impl Print, code: Code, chips: &[u8], start: usize) -> io::Re
 
 // All words with one place that is kept, which is asked once more after its refusal.
 fn print_kept(rt: &impl Print, code: Code, chips: &[u8], start: usize) -> io::Result<()> {
-    let mut place = chipreader::start(chips, start);
+    let mut place = Place::start(chips, start);
     for _ in 0..MOST {
-        place = chipreader::step(code, chips, place);
+        place = place.step(code, chips);
         if !print_place(rt, place)? {
-            print_place(rt, chipreader::step(code, chips, place))?;
+            print_place(rt, place.step(code, chips))?;
             return Ok(());
         }
     }
     Ok(())
 }
 
-fn print_words(
-    rt: &impl Print,
-    code: Code,
-    kept: bool,
-    chips: &[u8],
-    start: usize,
-) -> io::Result<()> {
+fn print_words(rt: &impl Print, request: Request, chips: &[u8], start: usize) -> io::Result<()> {
     println!(rt; "number place value")?;
-    if kept {
-        print_kept(rt, code, chips, start)
+    if request.kept {
+        print_kept(rt, request.code, chips, start)
     } else {
-        print_anew(rt, code, chips, start)
+        print_anew(rt, request.code, chips, start)
     }
 }
 
@@ -143,12 +127,13 @@ fn main(rt: HostRuntime) -> io::Result<()> {
     // room for one byte of chips more than a received buffer may have: behind it nothing is read, since 10 is certain
     let mut input = [0u8; 1034];
     let n = read_full(&mut rt.stdin(), &mut input)?;
-    let what = asked(input[0]);
-    if n >= CHIPS {
-        if let Input::Reader(code, kept) = what {
-            let start = start_in(&input);
-            return print_words(&rt, code, kept, &input[CHIPS..n], start);
-        }
+    match asked(input[0]) {
+        Some(request) if n >= CHIPS => print_words(
+            &rt,
+            request,
+            &input[CHIPS..n],
+            start_in(&input),
+        ),
+        _ => println!(rt; "no such reader"),
     }
-    println!(rt; "no such reader")
 }

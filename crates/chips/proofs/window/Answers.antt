@@ -1,6 +1,6 @@
 -- Behind the end all chips are 0; before it twice 32 chips make 64.
-use mathlib.Core.Path.{◌∙◌, ap₂, sym}
-use Prim.Native.Nat.{ℕ, ◌+◌, ◌*◌}
+use mathlib.Core.Path.{sym}
+use Prim.Native.Nat.{◌*◌}
 use native.Mathlib.Omega.{arith}
 use Rattle.chips.proofs.WindowLaws.{word_at_behind, word_at_halves}
 use Rattle.chips.proofs.window.Goals as goal
@@ -11,5 +11,4 @@ returns-then-s-q c = sym (word_at_behind c.args.s.now (8 * c.args.q) 64 (omega a
 pub returns : goal.returns
 returns c =
     let at = c.args in
-    ap₂ (λ (a b : ℕ). a * 4294967296 + b) c.four.ensures.0 c.four-2.ensures.0
-    ∙ word_at_halves at.s.now at.q
+    omega (arith, word_at_halves at.s.now at.q)

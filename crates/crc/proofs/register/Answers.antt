@@ -44,9 +44,6 @@ loop-g-preserved c =
           ∙ rw e.1.0 at w.same;
     }
 
-pub left_by-requires-2 : goal.left_by-requires-2
-left_by-requires-2 c = c.loop-g.invariant.upper_bound
-
 pub returns : goal.returns
 unfolding reg_of
 returns c =

@@ -13,5 +13,5 @@ invariant-loop-g l =
       size : l.g-iterator.size ≡ 16;
       whole : length rest % 16 ≡ 0;
       upper_bound : l.v < folded;
-      same : reg_of (remainder l.v) rest ≡ reg_of 0 l.s
+      same : reg_of (remainder l.v) rest ≡ reg_of 0 l.s;
     }

@@ -1,12 +1,8 @@
 -- The loop's invariant: the word stands at none of the j places so far.
-use Prim.Native.Nat.{◌-◌, ◌≤◌}
 use Rattle.sync.specs.SyncSearch.{sync_word}
 use Rattle.sync.proofs.PassedLaws.{Missed}
 use Rattle.sync.proofs.ScanLaws.{stands_in}
 use Rattle.sync.proofs.first_in.Given as goal
 
 abbrev pub invariant-loop-j : goal.invariant-loop-j
-invariant-loop-j l = (l.j ≤ l.n) × Missed (stands_in sync_word l.x) l.r l.j
-
-abbrev pub decreases-loop-j : goal.decreases-loop-j
-decreases-loop-j l = l.n - l.j
+invariant-loop-j l = Missed (stands_in sync_word l.x) l.r l.j

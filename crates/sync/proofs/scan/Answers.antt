@@ -1,6 +1,5 @@
 use mathlib.Core.Path.{◌≡◌, sym, ap, ◌∙◌}
 use Prim.Native.Nat.{ℕ, ◌+◌, ◌%◌}
-use native.Mathlib.Nat.{not-suc-le-zero}
 use native.Mathlib.Omega.{arith}
 use Rattle.sync.specs.SyncSearch.{passed, sync_word}
 use Rattle.sync.proofs.PassedLaws.{passed_none}
@@ -13,18 +12,15 @@ use Rattle.sync.proofs.scan.Goals as goal
 turn :
     (c : After-first_in-j)
     → let at = c.args in
-    Turn (syncAt at.s.now) at.start at.m c.loop-i.i c.smaller-n.result
+    Turn (syncAt at.s.now) at.start at.m c.loop-i.i c.min-n.result
     c.first_in-j.result
 turn c =
     let at = c.args in
-    let n = c.smaller-n.result in
+    let n = c.min-n.result in
     let k = at.start + c.loop-i.i in
     let window = ap (λ (x : ℕ). passed (stands_in sync_word x) (k % 8) n) c.window.ensures in
     let over = c.first_in-j.ensures ∙ window ∙ passed_window sync_word at.s.now k n (omega arith) in
     record { missed = c.loop-i.invariant.1; fits = omega arith; over = over }
-
-pub loop-i-init : goal.loop-i-init
-loop-i-init c = (omega arith, λ j l. absurd (not-suc-le-zero l))
 
 pub returns-then-j-n : goal.returns-then-j-n
 returns-then-j-n c = turn_hit (turn (goal.at.returns-then-j-n c).After-first_in-j) (omega arith)

@@ -3,7 +3,7 @@ use Prim.Native.Nat.{◌+◌, ◌≤◌}
 use native.Mathlib.Omega.{arith}
 use borrow.Author.Tests.{not-true, not-false}
 use lib.ListN.{length}
-use Rattle.blocks.proofs.LoopLaws.{checking_start, checking_fits, checking_wrong, checking_step, checking_end}
+use Rattle.blocks.proofs.LoopLaws.{checking_fits, checking_wrong, checking_step, checking_end}
 use Rattle.blocks.proofs.Cut.first_wrong.Goals.{After-min-k}
 use Rattle.blocks.proofs.Cut.first_wrong.Goals as goal
 
@@ -13,11 +13,6 @@ room :
     → c.loop-left.at + (c.min-k.result + 2) ≤ length c.args.s.now
 room c =
     omega (arith, checking_fits c.loop-left.invariant (omega arith) (omega arith) c.min-k.ensures)
-
-pub loop-left-init : goal.loop-left-init
-loop-left-init c =
-    let a = c.args in
-    checking_start a.s.now a.self.first a.self.later a.t (omega arith) (omega arith)
 
 pub block_ok-requires : goal.block_ok-requires
 block_ok-requires c = omega (arith, room (goal.at.block_ok-requires c).After-min-k)
@@ -32,16 +27,6 @@ overflow_add-at c = omega (arith, room (goal.at.overflow_add-at c).After-min-k)
 
 pub overflow_add-at-in-loop-left : goal.overflow_add-at-in-loop-left
 overflow_add-at-in-loop-left c = omega (arith, room (goal.at.overflow_add-at-in-loop-left c).After-min-k)
-
-pub overflow_sub-left : goal.overflow_sub-left
-overflow_sub-left c = omega (arith, c.min-k.ensures)
-
-pub overflow_add-block : goal.overflow_add-block
-overflow_add-block c = omega (arith, room (goal.at.overflow_add-block c).After-min-k)
-
-pub loop-left-smaller : goal.loop-left-smaller
-loop-left-smaller c =
-    omega (arith, c.min-k.ensures, c.loop-left.invariant.some)
 
 pub loop-left-preserved : goal.loop-left-preserved
 loop-left-preserved c =

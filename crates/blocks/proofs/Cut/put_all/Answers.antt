@@ -30,9 +30,6 @@ pub put_first-requires : goal.put_first-requires
 put_first-requires c =
     (omega (arith, c.min-done.ensures), omega (arith, first-room (goal.at.put_first-requires c).After-min-done))
 
-pub overflow_add-at : goal.overflow_add-at
-overflow_add-at c = omega (arith, first-room (goal.at.overflow_add-at c).After-min-done)
-
 pub loop-done-init : goal.loop-done-init
 loop-done-init c =
     record {
@@ -42,26 +39,13 @@ loop-done-init c =
       same = refl;
     }
 
-pub overflow_sub-c : goal.overflow_sub-c
-overflow_sub-c c = omega (arith, c.loop-done.invariant.below)
-
 pub put_span-requires : goal.put_span-requires
 put_span-requires c =
     (omega (arith, c.min-k.ensures), omega (arith, room (goal.at.put_span-requires c).After-min-k))
 
-pub overflow_add-at-in-loop-done : goal.overflow_add-at-in-loop-done
-overflow_add-at-in-loop-done c =
-    omega (arith, room (goal.at.overflow_add-at-in-loop-done c).After-min-k, c.put_span.auto.out)
-
 pub overflow_add-at-in-loop-done-2 : goal.overflow_add-at-in-loop-done-2
 overflow_add-at-in-loop-done-2 c =
     omega (arith, room (goal.at.overflow_add-at-in-loop-done-2 c).After-min-k, c.put_span.auto.out)
-
-pub overflow_add-done : goal.overflow_add-done
-overflow_add-done c = omega (arith, c.min-k.ensures)
-
-pub loop-done-smaller : goal.loop-done-smaller
-loop-done-smaller c = omega (arith, c.min-k.ensures)
 
 pub loop-done-preserved : goal.loop-done-preserved
 loop-done-preserved c =

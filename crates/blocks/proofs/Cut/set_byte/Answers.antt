@@ -39,8 +39,3 @@ pub mend-requires : goal.mend-requires
 mend-requires c =
     let h = inside (goal.at.mend-requires c).After-locate-start in
     (omega arith, (omega arith, omega arith))
-
-pub returns : goal.returns
-returns c =
-    let e = c.locate-start.ensures in
-    rw (← e.0, ← e.1) c.mend.ensures

@@ -14,9 +14,6 @@ room :
 room c =
     omega (arith, copying_fits c.loop-left.invariant (omega arith) (omega arith) c.min-k.ensures)
 
-pub overflow_sub-most : goal.overflow_sub-most
-overflow_sub-most c = omega arith
-
 pub loop-left-init : goal.loop-left-init
 loop-left-init c =
     let a = c.args in
@@ -25,23 +22,6 @@ loop-left-init c =
 pub slice_bounds-copy_from_slice-end-in-loop-left : goal.slice_bounds-copy_from_slice-end-in-loop-left
 slice_bounds-copy_from_slice-end-in-loop-left c =
     omega (arith, room (goal.at.slice_bounds-copy_from_slice-end-in-loop-left c).After-min-k)
-
-pub overflow_add-at : goal.overflow_add-at
-overflow_add-at c = omega (arith, room (goal.at.overflow_add-at c).After-min-k)
-
-pub overflow_add-at-in-loop-left : goal.overflow_add-at-in-loop-left
-overflow_add-at-in-loop-left c = omega (arith, room (goal.at.overflow_add-at-in-loop-left c).After-min-k)
-
-pub overflow_add-done : goal.overflow_add-done
-overflow_add-done c =
-    omega (arith, c.min-k.ensures, c.loop-left.invariant.all)
-
-pub overflow_sub-left : goal.overflow_sub-left
-overflow_sub-left c = omega (arith, c.min-k.ensures)
-
-pub loop-left-smaller : goal.loop-left-smaller
-loop-left-smaller c =
-    omega (arith, c.min-k.ensures, c.loop-left.invariant.some)
 
 pub loop-left-preserved : goal.loop-left-preserved
 loop-left-preserved c =

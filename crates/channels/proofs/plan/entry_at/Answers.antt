@@ -3,7 +3,8 @@ use lib.Count.{count_trailing_zeros}
 use lib.Ieee.{round, size, span, climb, units, odd, of_bits, of_fields}
 use Rattle.ground.proofs.TableLaws.{get_or_values}
 use Rattle.channels.specs.Table21.{table, entry_of}
-use Rattle.channels.specs.Plan.{float, row_of, entry_as_floats}
+use Rattle.channels.specs.Inner.{entry_as_floats}
+use Rattle.channels.specs.Plan.{float, row_of}
 use Rattle.channels.proofs.Table21Laws.{entry_of_past}
 use Rattle.channels.proofs.plan.entry_at.Goals as goal
 

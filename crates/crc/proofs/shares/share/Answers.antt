@@ -1,10 +1,8 @@
 use mathlib.Core.Path.{◌≡◌, sym, ap, ◌∙◌}
-use Prim.Native.Nat.{ℕ, ◌/◌, ◌^◌}
-use native.Mathlib.Nat.{div-one}
+use Prim.Native.Nat.{ℕ, ◌/◌}
 use native.Mathlib.Omega.{arith}
-use borrow.Author.Rules.{rules}
 use Rattle.crc.specs.CheckUpdate.{share_of}
-use Rattle.crc.proofs.ShareLaws.{share_of_zero, share_of_next, bit-mul-lt}
+use Rattle.crc.proofs.ShareLaws.{share_of_zero, share_of_next}
 use Rattle.crc.proofs.shares.share.Goals as goal
 
 pub loop-k-init : goal.loop-k-init
@@ -13,19 +11,9 @@ loop-k-init c =
     let none : a.x / 256 ≡ 0 = omega arith in
     sym (ap (λ (y : ℕ). share_of y a.distance) none ∙ share_of_zero a.distance)
 
-pub overflow_mul-sum : goal.overflow_mul-sum
-overflow_mul-sum c = record { fits = bit-mul-lt _ _ (search rules) (search rules) }
-
 pub loop-k-preserved : goal.loop-k-preserved
 loop-k-preserved c =
     let at = c.loop-k in
     let a = c.args in
     rw (c.bit_in.ensures, at.invariant, c.from.ensures, c.share_of_one-one.ensures)
     (share_of_next a.x at.k a.distance (omega arith) (omega arith))
-
-pub returns : goal.returns
-returns c =
-    let at = c.loop-k in
-    let a = c.args in
-    let all : a.x / 2 ^ at.k ≡ a.x = ap (λ (j : ℕ). a.x / 2 ^ j) {y = 0} (omega arith) ∙ div-one a.x in
-    at.invariant ∙ ap (λ (y : ℕ). share_of y a.distance) all

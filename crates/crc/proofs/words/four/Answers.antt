@@ -2,27 +2,26 @@
 -- Assumes nothing.
 use mathlib.Core.Path.{refl}
 use native.Mathlib.Omega.{arith}
-use borrow.Author.Rules.{rules}
 use Rattle.crc.specs.Check.{bit_in, bits_in}
 use Rattle.crc.specs.Inner.{nested}
 use Rattle.crc.proofs.FoldLaws.{four_leaves, four-lt}
 use Rattle.crc.proofs.words.four.Goals as goal
 
-pub moved-p-requires : goal.moved-p-requires
+pub moved-p-requires-clause-n_value : goal.moved-p-requires-clause-n_value
 unfolding bit_in bits_in nested
-moved-p-requires c = record { w_bound = search rules; n_value = refl }
+moved-p-requires-clause-n_value c = refl
 
-pub moved-q-requires : goal.moved-q-requires
+pub moved-q-requires-clause-n_value : goal.moved-q-requires-clause-n_value
 unfolding bit_in bits_in nested
-moved-q-requires c = record { w_bound = search rules; n_value = refl }
+moved-q-requires-clause-n_value c = refl
 
-pub moved-r-requires : goal.moved-r-requires
+pub moved-r-requires-clause-n_value : goal.moved-r-requires-clause-n_value
 unfolding bit_in bits_in nested
-moved-r-requires c = record { w_bound = search rules; n_value = refl }
+moved-r-requires-clause-n_value c = refl
 
-pub moved-t-requires : goal.moved-t-requires
+pub moved-t-requires-clause-n_value : goal.moved-t-requires-clause-n_value
 unfolding bit_in bits_in nested
-moved-t-requires c = record { w_bound = search rules; n_value = refl }
+moved-t-requires-clause-n_value c = refl
 
 pub returns : goal.returns
 returns c =

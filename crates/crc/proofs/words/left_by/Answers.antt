@@ -1,7 +1,6 @@
 use mathlib.Core.Path.{◌≡◌, refl, ap, ◌∙◌}
 use Prim.Native.Nat.{ℕ, ◌%◌, ◌^◌, ◌<◌}
 use native.Mathlib.Omega.{arith}
-use borrow.Author.Rules.{rules}
 use lib.Bits.{bit_xor, xor_lt}
 use Rattle.crc.specs.Check.{bit_in, bits_in}
 use Rattle.crc.specs.Inner.{nested}
@@ -19,9 +18,9 @@ u-lt c =
     xor_lt 40 (c.args.v % 1099511627776) c.moved-high.result (omega arith)
     (omega (arith, c.moved-high.ensures.by_index 14 (omega arith)))
 
-pub moved-high-requires : goal.moved-high-requires
+pub moved-high-requires-clause-n_value : goal.moved-high-requires-clause-n_value
 unfolding bit_in bits_in nested
-moved-high-requires c = record { w_bound = search rules; n_value = refl }
+moved-high-requires-clause-n_value c = refl
 
 pub loop-j-init : goal.loop-j-init
 loop-j-init c = rows_start (u-of (goal.at.loop-j-init c).After-moved-high)

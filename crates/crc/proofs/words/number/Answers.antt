@@ -1,5 +1,4 @@
-use mathlib.Core.Path.{◌≡◌}
-use Prim.Native.Nat.{◌+◌, ◌*◌, ◌<◌, ◌^◌}
+use Prim.Native.Nat.{◌*◌, ◌<◌, ◌^◌}
 use native.Mathlib.Nat.{zero-add}
 use native.Mathlib.Omega.{arith}
 use lib.Pow.{pow_mono}
@@ -25,8 +24,9 @@ loop-b-preserved c =
     let at = c.loop-b in
     let s = c.args.s.now in
     let byte : get_or s at.b-index 0 < 256 = omega (arith, c.type_inv.s at.b-index) in
+    let few_more = few (goal.at.loop-b-preserved c).In-loop-b in
     rw c.from.ensures (
       number_lt at.w _ at.b-index at.invariant.0 byte,
-      rw (zero-add at.b-index) at (adds_number s 0 at.b-index at.w (omega (arith, few (goal.at.loop-b-preserved c).In-loop-b))
+      rw (zero-add at.b-index) at (adds_number s 0 at.b-index at.w (omega (arith, few_more))
           (omega arith) (rw (zero-add at.b-index) byte) at.invariant.1),
     )

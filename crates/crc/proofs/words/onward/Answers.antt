@@ -3,15 +3,14 @@ use mathlib.Core.Path.{refl}
 use Prim.Native.Nat.{◌/◌, ◌^◌}
 use native.Mathlib.Omega.{arith}
 use lib.Bits.{xor_lt}
-use borrow.Author.Rules.{rules}
 use Rattle.crc.specs.Check.{bit_in, bits_in}
 use Rattle.crc.specs.Inner.{nested}
 use Rattle.crc.proofs.FoldLaws.{onward_leaves}
 use Rattle.crc.proofs.words.onward.Goals as goal
 
-pub moved-low-requires : goal.moved-low-requires
+pub moved-low-requires-clause-n_value : goal.moved-low-requires-clause-n_value
 unfolding bit_in bits_in nested
-moved-low-requires c = record { w_bound = search rules; n_value = refl }
+moved-low-requires-clause-n_value c = refl
 
 pub returns : goal.returns
 returns c =

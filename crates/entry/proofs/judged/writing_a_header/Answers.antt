@@ -3,6 +3,4 @@ use Rattle.demands.proofs.Demands.{meter-numbers}
 use Rattle.entry.proofs.judged.writing_a_header.Goals as goal
 
 pub returns : goal.returns
-returns c =
-    rw c.write.ensures
-    (meter-numbers.writing_a_header c.args.h _)
+returns c = rw c.write.ensures (meter-numbers.writing_a_header c.args.h _)

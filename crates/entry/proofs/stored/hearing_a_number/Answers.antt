@@ -1,9 +1,7 @@
 -- `entry::stored::hearing_a_number`: what the page says of the definition that the call answers by.
-use native.Mathlib.Omega.{arith}
+use Rattle.std.proofs.Common.{rules}
 use Rattle.demands.proofs.Demands.{store-numbers}
 use Rattle.entry.proofs.stored.hearing_a_number.Goals as goal
 
 pub returns : goal.returns
-returns c =
-    rw c.hear.ensures
-    (store-numbers.hearing_a_number _ (λ j. omega (arith, c.slice_known-1.given j)) _ _)
+returns c = rw c.hear.ensures (store-numbers.hearing_a_number _ (λ j. search rules) _ _)

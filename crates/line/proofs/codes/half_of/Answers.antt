@@ -1,11 +1,10 @@
--- `line::codes::half_of` meets its contract, by what the rows list.
-use mathlib.Core.Path.{sym}
-use native.Mathlib.Omega.{arith}
-use Rattle.line.proofs.HalvesLaws.{half_of_is, half_of_none}
+-- `line::codes::half_of` meets its contract: the table is what the definition says of each word, by computing all 64.
+use Rattle.std.specs.Prelude.{None}
+use Rattle.ground.proofs.TableLaws.{get_or_values}
+use Rattle.line.specs.Codes.{code_of, word_value, number_for}
+use Rattle.line.specs.declared.codes.Code.TheVariants.{ThreeOfSix}
 use Rattle.line.proofs.codes.half_of.Goals as goal
 
-pub returns-then-half-lt16 : goal.returns-then-half-lt16
-returns-then-half-lt16 c = sym (half_of_is c.args.y c.listed-half.ensures c.if-half-lt16.true)
-
-pub returns-else-half-lt16 : goal.returns-else-half-lt16
-returns-else-half-lt16 c = sym (half_of_none c.args.y c.listed-half.ensures (omega arith))
+pub returns : goal.returns
+unfolding number_for
+returns c = get_or_values (word_value (code_of ThreeOfSix)) 64 c.args.y None c.requires

@@ -1,15 +1,10 @@
 -- `line::decoding::byte_at` meets its contract: each way that it takes does.
 use mathlib.Core.Path.{ap, sym, ◌∙◌}
 use native.Mathlib.Omega.{arith}
+use Rattle.std.specs.Prelude.{Ok}
 use Rattle.chips.proofs.WindowLaws.{word_at_lt}
 use Rattle.line.proofs.JoiningLaws.{byte_read_nrz}
-use Rattle.line.specs.declared.decoding.Byte.TheVariants as byte
 use Rattle.line.proofs.decoding.byte_at.Goals as goal
-
-pub narrow-requires : goal.narrow-requires
-narrow-requires c =
-    let there = c.requires.1 in
-    (omega arith, (there.0, rw c.in-Nrz.is at there.1))
 
 pub overflow_cast-result : goal.overflow_cast-result
 overflow_cast-result c =
@@ -19,7 +14,4 @@ overflow_cast-result c =
 pub returns-in-Nrz : goal.returns-in-Nrz
 returns-in-Nrz c =
     let a = c.args in
-    rw c.in-Nrz.is (ap byte.Is c.narrow.ensures ∙ sym (byte_read_nrz a.s.now a.at))
-
-pub returns-in-ThreeOfSix : goal.returns-in-ThreeOfSix
-returns-in-ThreeOfSix c = rw c.in-ThreeOfSix.is c.halves_at.ensures
+    rw c.in-Nrz.is (ap Ok c.narrow.ensures ∙ sym (byte_read_nrz a.s.now a.at))

@@ -1,136 +1,88 @@
 -- `line::decoding::decode` meets its contract: each answer follows from the tests that led to it.
-use mathlib.Core.Path.{◌≡◌, ap, sym, ◌∙◌}
-use mathlib.Core.List.{List, ◌++◌}
-use Prim.Native.Nat.{ℕ, ◌+◌, ◌*◌, ◌≤◌, ◌<◌}
+use mathlib.Core.Path.{◌≡◌, refl, sym, ◌∙◌}
+use mathlib.Core.List.{List}
+use Prim.Native.Nat.{ℕ, ◌+◌, ◌*◌, ◌≤◌}
+use native.Mathlib.Nat.{mul_assoc}
 use native.Mathlib.Omega.{arith}
-use lib.ListN.{length, drop}
-use Rattle.answers.specs.Outcome.{Outcome}
-use Rattle.chips.proofs.RangeLaws.{InBuffer, in_range_kept, in_range_refused}
+use lib.ListN.{length}
+use lib.Seq.{take_at}
+use Rattle.std.proofs.Common.{rules}
+use Rattle.std.proofs.lemmas.List.{length-take-le}
+use Rattle.answers.specs.declared.Refusal.{Refusal}
+use Rattle.chips.proofs.RangeLaws.{InBuffer, in_range_true}
+use Rattle.chips.specs.Chips.{chip_count, room_limit}
 use Rattle.line.proofs.AnswerLaws.{decoded_out, decoded_short, decoded_bad, decoded_no_room, decoded-accepted}
-use Rattle.line.proofs.CodeLaws.{lawful, words_in_le, chips_in_ge, chips_in-le}
-use Rattle.line.proofs.GoodRunLaws.{good_run-le}
-use Rattle.line.specs.Codes.{code_of, words_in, chips_in}
-use Rattle.line.specs.Decoding.{value_at, good_run}
-use Rattle.line.specs.declared.decoding.Decoded.{Decoded}
-use Rattle.line.specs.declared.decoding.Decoded.TheVariants.{Accepted}
-use Rattle.line.proofs.decoding.decode.Goals.{After-width, Else-good-words, Else-not-in_range, Else-s-start}
+use Rattle.line.proofs.CodeLaws.{lawful, chips_in_ge}
+use Rattle.line.proofs.TripLaws.{length-decoding}
+use Rattle.line.specs.Codes.{code_of, chips_in}
+use Rattle.line.specs.Decoding.{decoding}
+use Rattle.line.specs.Inner.{AllWords, NotWords}
+use Rattle.line.specs.declared.codes.Code.{Code}
+use Rattle.line.proofs.decoding.decode.Goals.{Else-not-in_range, Else-s-start, In_ok-fill}
 use Rattle.line.proofs.decoding.decode.Goals as goal
 
 -- buffer and start are in range
-in_buffer : (c : Else-not-in_range) → let a = c.args in InBuffer a.s.now a.start
-in_buffer c = in_range_kept c.in_range.ensures c.if-not-in_range.false-raw
-
--- the chips that are asked for
-needed : (c : After-width)
-    → let a = c.args in
-    a.n * c.per_byte.result * c.width.result ≡ chips_in (code_of a.code) a.n
-needed c = rw (c.per_byte.ensures, c.width.ensures)
+in_buffer : (c : Else-not-in_range) → InBuffer c.args.s.now c.args.start
+in_buffer c = in_range_true (sym c.in_range.ensures ∙ c.if-not-in_range.false)
 
 -- the named bytes lie in the buffer
-fits : (c : Else-s-start) → let a = c.args in
-    (length a.s.now ≤ 1024) × (a.start + chips_in (code_of a.code) a.n ≤ 8 * length a.s.now)
+fits : (c : Else-s-start)
+    → let a = c.args in
+    (length a.s.now ≤ room_limit) × (a.start + chips_in (code_of a.code) a.n ≤ chip_count a.s.now)
 fits c =
-    let inside = in_buffer (record {
-      before = c.before.before.before.before.before;
-      type_inv = record { out = c.slice_known-1.given; s = c.shared_slice_known-1.given };
-    }) in
-    let asked = needed (record {
-      before = c.before.before;
-      type_inv = record { out = c.slice_known-1.given; s = c.shared_slice_known-1.given };
-    }) in
-    (inside.small, omega (arith, inside.inside, asked, c.if-s-start.false))
-
-words : (c : Else-s-start)
-    → let a = c.args in
-    a.n * c.per_byte.result ≡ words_in (code_of a.code) a.n
-words c = rw c.per_byte.ensures
-
--- every word is a code word
-all_words : (c : Else-good-words)
-    → let a = c.args in
-    let κ = code_of a.code in
-    good_run (value_at κ a.s.now a.start) (words_in κ a.n) ≡ words_in κ a.n
-all_words c =
     let a = c.args in
-    let κ = code_of a.code in
-    omega (
-      arith,
-      words (record {
-        before = c.before.before.before.before.before;
-        type_inv = record
-            { out = c.slice_known-1.given; s = c.shared_slice_known-1.given };
-      }),
-      c.fill-good.ensures.0,
-      c.if-good-words.false,
-      good_run-le (value_at κ a.s.now a.start) (words_in κ a.n),
-    )
+    let inside = in_range_true {s = a.s.now} {at = a.start} (sym c.in_range.ensures ∙ c.if-not-in_range.false) in
+    let needed : a.n * c.unit.result ≡ chips_in (code_of a.code) a.n = rw (c.unit.ensures, mul_assoc) in
+    (inside.small, omega (arith, inside.inside, c.if-s-start.false))
 
-accepted : List ℕ → Outcome Decoded
-accepted m = record { answer = Accepted; memory = m }
+-- the part of the room that is filled has n bytes
+module _ (code : Code) (s : List ℕ) (start : ℕ) {m n : ℕ} where
+  filled : {d : List ℕ} → AllWords (code_of code) s start m × (d ≡ decoding (code_of code) s start m) → m ≡ n
+      → AllWords (code_of code) s start n × (d ≡ decoding (code_of code) s start n)
+  filled all size = rw (← size) all
+
+  refused : {r : Refusal} → NotWords (code_of code) s start m r → m ≡ n → NotWords (code_of code) s start n r
+  refused none size = rw (← size) none
 
 pub returns-then-not-in_range : goal.returns-then-not-in_range
 returns-then-not-in_range c =
-    let a = c.args in
-    sym (decoded_out (code_of a.code) a.s.now a.start a.n a.out.now
-    (in_range_refused a.s.now a.start c.in_range.ensures c.if-not-in_range.true-raw))
+    sym (decoded_out _ _ _ _ _ (sym c.in_range.ensures ∙ c.if-not-in_range.true))
 
 pub returns-then-n-gt-LIMIT : goal.returns-then-n-gt-LIMIT
 returns-then-n-gt-LIMIT c =
-    let a = c.args in
-    let more : 1024 * 8 < chips_in (code_of a.code) a.n = omega (arith, chips_in_ge (lawful a.code) a.n) in
-    sym (decoded_short (code_of a.code) a.s.now a.start a.n a.out.now
-    (in_buffer (goal.at.returns-then-n-gt-LIMIT c).Else-not-in_range)
-    (omega (arith, (in_buffer (goal.at.returns-then-n-gt-LIMIT c).Else-not-in_range).small)))
-
-pub overflow_mul-words : goal.overflow_mul-words
-overflow_mul-words c =
-    let a = c.args in
-    rw c.per_byte.ensures (omega (arith, words_in_le (code_of a.code) a.n))
-
-pub overflow_mul-s : goal.overflow_mul-s
-overflow_mul-s c = omega (arith, (in_buffer (goal.at.overflow_mul-s c).Else-not-in_range).small)
-
-pub overflow_sub-s : goal.overflow_sub-s
-overflow_sub-s c = omega (arith, (in_buffer (goal.at.overflow_sub-s c).Else-not-in_range).inside)
-
-pub overflow_mul-words-2 : goal.overflow_mul-words-2
-overflow_mul-words-2 c =
-    let a = c.args in
-    rw (c.per_byte.ensures, c.width.ensures) (omega (arith, chips_in-le (lawful a.code) a.n))
+    let inside = in_buffer (goal.at.returns-then-n-gt-LIMIT c).Else-not-in_range in
+    let law = lawful c.args.code in
+    sym (decoded_short _ _ _ _ _ inside (omega (arith, inside.small, chips_in_ge law c.args.n)))
 
 pub returns-then-s-start : goal.returns-then-s-start
 returns-then-s-start c =
-    sym (decoded_short _ _ _ _ _ (in_buffer (goal.at.returns-then-s-start c).Else-not-in_range)
-    (omega (
-      arith,
-      (in_buffer (goal.at.returns-then-s-start c).Else-not-in_range).inside,
-      needed
-          (goal.at.returns-then-s-start c).After-width,
-    )))
+    let a = c.args in
+    let inside = in_buffer (goal.at.returns-then-s-start c).Else-not-in_range in
+    let needed : a.n * c.unit.result ≡ chips_in (code_of a.code) a.n = rw (c.unit.ensures, mul_assoc) in
+    sym (decoded_short _ _ _ _ _ inside (omega (arith, inside.inside)))
 
-pub fill-good-requires : goal.fill-good-requires
-fill-good-requires c = omega (arith, fits (goal.at.fill-good-requires c).Else-s-start)
-
-pub returns-then-good-words : goal.returns-then-good-words
-returns-then-good-words c =
-    sym (decoded_bad _ _ _ _ _ (fits (goal.at.returns-then-good-words c).Else-s-start).0
-    (fits (goal.at.returns-then-good-words c).Else-s-start).1 c.fill-good.ensures.0
-    (omega (arith, words (goal.at.returns-then-good-words c).Else-s-start, c.if-good-words.true)))
+pub returns-in_err-fill : goal.returns-in_err-fill
+returns-in_err-fill c =
+    let a = c.args in
+    let there = fits (goal.at.returns-in_err-fill c).Else-s-start in
+    let none = refused a.code a.s.now a.start c.in_err-fill.ensures.err (length-take-le a.n _ (omega arith)) in
+    let bad = decoded_bad (code_of a.code) a.s.now a.start a.n a.out.now there.0 there.1 refl none.0 in
+    search rules
 
 pub returns-then-out-n : goal.returns-then-out-n
 returns-then-out-n c =
-    sym (decoded_no_room _ _ _ _ _ (fits (goal.at.returns-then-out-n c).Else-s-start).0
-    (fits (goal.at.returns-then-out-n c).Else-s-start).1 (all_words (goal.at.returns-then-out-n c).Else-good-words)
-    c.if-out-n.true)
+    let there = fits (goal.at.returns-then-out-n c).Else-s-start in
+    let a = c.args in
+    let all = filled a.code a.s.now a.start c.in_ok-fill.ensures.ok (length-take-le a.n _ (omega arith)) in
+    sym (decoded_no_room _ _ _ _ _ there.0 there.1 all.0 c.if-out-n.true)
 
 pub returns : goal.returns
-unfolding accepted
 returns c =
-    let filled = c.fill-good in
     let a = c.args in
-    let bytes = filled.ensures.1 (filled.ensures.0 ∙ all_words (goal.at.returns c).Else-good-words) in
-    let copied = c.copy.ensures ∙ ap (λ (p : List ℕ). p ++ drop a.n a.out.now) bytes in
-    ap accepted copied
-    ∙ sym (decoded-accepted (code_of a.code) a.s.now a.start a.n a.out.now (fits (goal.at.returns c).Else-s-start).0
-    (fits (goal.at.returns c).Else-s-start).1
-    (all_words (goal.at.returns c).Else-good-words) c.if-out-n.false)
+    let there = fits (goal.at.returns c).Else-s-start in
+    let all = filled a.code a.s.now a.start c.in_ok-fill.ensures.ok (length-take-le a.n _ (omega arith)) in
+    let is = decoded-accepted (code_of a.code) a.s.now a.start a.n a.out.now there.0 there.1 all.0 c.if-out-n.false in
+    let size : length c.fill.new.room ≡ a.n = rw all.1 (length-decoding (code_of a.code) a.s.now a.start a.n) in
+    let copied : c.copy_from_slice.new.self ≡ c.fill.new.room
+    = c.copy_from_slice.ensures.after ∙ take_at c.fill.new.room _ a.n size in
+    rw (is, ← all.1, copied)

@@ -1,19 +1,33 @@
 -- `line::decoding::halves_at` meets its contract: by what the table says of the first word, then of the second.
-use mathlib.Core.Path.{sym}
-use Rattle.line.proofs.HalvesLaws.{byte_read_first, byte_read_second, byte_read_both}
+use mathlib.Core.Path.{refl, sym, ◌∙◌}
+use native.Mathlib.Omega.{arith}
+use Rattle.line.proofs.HalvesLaws.{listed_some, listed_none, byte_read_first, byte_read_second, byte_read_both}
 use Rattle.line.proofs.decoding.halves_at.Goals as goal
 
-pub returns-then-high-gt15 : goal.returns-then-high-gt15
-returns-then-high-gt15 c =
+pub returns-in_default : goal.returns-in_default
+returns-in_default c =
     let a = c.args in
-    sym (byte_read_first c.requires a.s.now a.at c.half.ensures c.if-high-gt15.true)
+    sym (byte_read_first a.s.now a.at c.half.ensures refl (listed_none _ (sym c.half_of.ensures ∙ c.in_default.is)))
 
-pub returns-then-low-gt15 : goal.returns-then-low-gt15
-returns-then-low-gt15 c =
+pub returns-in_default-half_of : goal.returns-in_default-half_of
+returns-in_default-half_of c =
     let a = c.args in
-    sym (byte_read_second c.requires a.s.now a.at c.half.ensures c.if-high-gt15.false c.if-low-gt15.true)
+    let high = listed_some _ (sym c.half_of.ensures ∙ c.in-Some.is) in
+    let none = listed_none _ (sym c.half_of-2.ensures ∙ c.in_default-half_of.is) in
+    sym (byte_read_second a.s.now a.at c.half.ensures high.0 high.1 refl none)
+
+pub overflow_mul-result : goal.overflow_mul-result
+overflow_mul-result c = omega (arith, listed_some _ (sym c.half_of.ensures ∙ c.in-Some.is))
+
+pub overflow_add-result : goal.overflow_add-result
+overflow_add-result c =
+    let high = listed_some _ (sym c.half_of.ensures ∙ c.in-Some.is) in
+    let low = listed_some _ (sym c.half_of-2.ensures ∙ c.in-Some-half_of.is) in
+    omega arith
 
 pub returns : goal.returns
 returns c =
     let a = c.args in
-    sym (byte_read_both c.requires a.s.now a.at c.half.ensures c.if-high-gt15.false c.if-low-gt15.false)
+    let high = listed_some _ (sym c.half_of.ensures ∙ c.in-Some.is) in
+    let low = listed_some _ (sym c.half_of-2.ensures ∙ c.in-Some-half_of.is) in
+    sym (byte_read_both a.s.now a.at c.half.ensures high.0 high.1 low.0 low.1)

@@ -1,12 +1,10 @@
 use mathlib.Core.Path.{◌≡◌, ap, sym, ◌∙◌}
-use native.Mathlib.Nat.{mod-lt}
 use native.Mathlib.Omega.{arith}
-use lib.Pow.{pow_pos}
-use Rattle.line.proofs.CodeLaws.{lawful, unit_of_ge, sizes-le}
-use Rattle.line.proofs.JoiningLaws.{joining_start, joining_le, joining_lt, joining_inside, joining_value, joining_step, joining_room, joining_bad, joining_end}
+use Rattle.std.specs.Prelude.{Some}
+use Rattle.line.proofs.CodeLaws.{lawful, sizes-le}
+use Rattle.line.proofs.JoiningLaws.{joining_start, joining_lt, joining_value, joining_step, joining_room, joining_bad, joining_end}
 use Rattle.line.specs.Codes.{code_of}
 use Rattle.line.specs.Decoding.{value_at}
-use Rattle.line.specs.declared.codes.Value.TheVariants.{Is}
 use Rattle.line.proofs.decoding.words_at.Goals.{After-word_value}
 use Rattle.line.proofs.decoding.words_at.Goals as goal
 
@@ -18,11 +16,6 @@ valueAt-read c =
     joining_value c.loop-k.invariant c.loop-k-test.true c.word-all.ensures
     c.part.ensures c.word_value.ensures
 
-pub word-all-requires : goal.word-all-requires
-word-all-requires c =
-    let law = lawful c.args.code in
-    omega (arith, c.unit-unit.ensures, unit_of_ge law, law.unit_le)
-
 pub loop-k-init : goal.loop-k-init
 loop-k-init c =
     joining_start
@@ -30,30 +23,9 @@ loop-k-init c =
       law = lawful c.args.code;
       b-eq = c.bits-b.ensures;
       w-eq = c.width-w.ensures;
-      m-eq = c.per_byte-m.ensures;
+      m-eq = c.per_byte-k-end.ensures;
     })
     c.unit-unit.ensures
-
-pub overflow_sub-unit : goal.overflow_sub-unit
-overflow_sub-unit c = omega (arith, joining_inside c.loop-k.invariant c.loop-k-test.true)
-
-pub overflow_mul-k : goal.overflow_mul-k
-overflow_mul-k c =
-    let inv = c.loop-k.invariant in
-    omega (arith, joining_le inv, joining_inside inv c.loop-k-test.true)
-
-pub overflow_sub-unit-in-loop-k : goal.overflow_sub-unit-in-loop-k
-overflow_sub-unit-in-loop-k c = omega (arith, joining_inside c.loop-k.invariant c.loop-k-test.true)
-
-pub part-requires : goal.part-requires
-part-requires c =
-    let inv = c.loop-k.invariant in
-    omega (arith, joining_le inv, sizes-le inv.sizes)
-
-pub word_value-requires : goal.word_value-requires
-word_value-requires c =
-    let w = c.width-w in
-    rw (c.part.ensures, ← w.ensures) (mod-lt _ (pow_pos w.result))
 
 pub returns-in_default : goal.returns-in_default
 returns-in_default c =
@@ -64,13 +36,15 @@ returns-in_default c =
 pub join-x-requires : goal.join-x-requires
 join-x-requires c =
     let inv = c.loop-k.invariant in
-    let is = valueAt-read (goal.at.join-x-requires c).After-word_value ∙ (c.in-Is.is ∙ ap Is (sym c.wide.ensures.0)) in
+    let is = valueAt-read (goal.at.join-x-requires c).After-word_value
+    ∙ (c.in-Some.is ∙ ap Some (sym c.from.ensures)) in
     omega (arith, sizes-le inv.sizes, joining_room inv c.loop-k-test.true is)
 
 pub loop-k-preserved : goal.loop-k-preserved
 loop-k-preserved c =
     let inv = c.loop-k.invariant in
-    let is = valueAt-read (goal.at.loop-k-preserved c).After-word_value ∙ (c.in-Is.is ∙ ap Is (sym c.wide.ensures.0)) in
+    let is = valueAt-read (goal.at.loop-k-preserved c).After-word_value
+    ∙ (c.in-Some.is ∙ ap Some (sym c.from.ensures)) in
     rw c.join-x.ensures (joining_step inv c.loop-k-test.true is)
 
 pub overflow_cast-result : goal.overflow_cast-result

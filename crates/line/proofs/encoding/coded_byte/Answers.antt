@@ -1,9 +1,7 @@
 use mathlib.Core.Path.{sym}
-use native.Mathlib.Nat.{mod-lt}
 use native.Mathlib.Omega.{arith}
-use lib.Pow.{pow_pos}
 use Rattle.line.proofs.CodeLaws.{lawful, sizes-le}
-use Rattle.line.proofs.CodingLaws.{coding_start, coding_inside, coding_step, coding_room, coding_end}
+use Rattle.line.proofs.CodingLaws.{coding_start, coding_step, coding_room, coding_end}
 use Rattle.line.proofs.EncodingLaws.{gather-sent_chip_behind}
 use Rattle.line.proofs.encoding.coded_byte.Goals as goal
 
@@ -19,26 +17,9 @@ loop-k-init c =
       law = lawful c.args.code;
       b-eq = c.bits-b.ensures;
       w-eq = c.width-w.ensures;
-      m-eq = c.per_byte-m.ensures;
+      m-eq = c.per_byte-k-end.ensures;
     })
-    c.wide-x.ensures
-
-pub overflow_sub-b : goal.overflow_sub-b
-overflow_sub-b c = omega (arith, coding_inside c.loop-k.invariant c.loop-k-test.true)
-
-pub overflow_mul-k : goal.overflow_mul-k
-overflow_mul-k c = omega (arith, coding_inside c.loop-k.invariant c.loop-k-test.true)
-
-pub overflow_sub-b-in-loop-k : goal.overflow_sub-b-in-loop-k
-overflow_sub-b-in-loop-k c = omega (arith, coding_inside c.loop-k.invariant c.loop-k-test.true)
-
-pub part-requires : goal.part-requires
-part-requires c = omega (arith, coding_inside c.loop-k.invariant c.loop-k-test.true)
-
-pub word_of-word-requires : goal.word_of-word-requires
-word_of-word-requires c =
-    let b = c.bits-b in
-    rw (c.part.ensures, ← b.ensures) (mod-lt _ (pow_pos b.result))
+    (c.from-x.ensures, omega (arith, c.type_inv.s c.args.i))
 
 pub join-all-requires : goal.join-all-requires
 join-all-requires c =

@@ -1,12 +1,8 @@
 -- `line::encoding::coded_byte` meets its contract. The loop's invariant: `all` is the number that the chips of the
 -- byte's first k words make, one behind the other.
-use Prim.Native.Nat.{◌-◌}
 use Rattle.line.proofs.CodingLaws.{Coding}
 use Rattle.line.specs.Codes.{code_of}
 use Rattle.line.proofs.encoding.coded_byte.Given as goal
 
 abbrev pub invariant-loop-k : goal.invariant-loop-k
-invariant-loop-k l = Coding (code_of l.code) l.s l.i l.b l.w l.m l.x l.all l.k
-
-abbrev pub decreases-loop-k : goal.decreases-loop-k
-decreases-loop-k l = l.m - l.k
+invariant-loop-k l = Coding (code_of l.code) l.s l.i l.b l.w l.k-end l.x l.all l.k

@@ -1,35 +1,34 @@
-use mathlib.Core.Path.{◌≡◌, ◌∙◌}
+use mathlib.Core.Path.{refl, ◌∙◌}
 use Prim.Native.Nat.{◌+◌, ◌*◌, ◌^◌, ◌≤◌}
 use native.Mathlib.Omega.{arith}
-use lib.ListN.{length}
 use Rattle.chips.specs.Packing.{packed}
 use Rattle.line.proofs.CodeLaws.{lawful, unit_of_ge}
 use Rattle.line.proofs.EncodingLaws.{sent_chip-lt}
-use Rattle.line.proofs.PouringLaws.{Held, pouring_start, held_more, held-lt, pouring_next, pouring_length, pouring_step, pouring_end}
+use Rattle.line.proofs.PouringLaws.{Held, pouring_start, held_more, held-lt, pouring_step, pouring_end}
 use Rattle.line.specs.Codes.{code_of}
 use Rattle.line.specs.Encoding.{encoding}
 use Rattle.line.specs.Inner.{sent_chip}
-use Rattle.line.proofs.encoding.pour.Goals.{then-count-lt8, else-count-lt8, After-coded_byte, At-loop-j, Joined-count-lt8}
+use Rattle.line.proofs.encoding.pour.Goals.{then-count-lt8, else-count-lt8, After-coded_byte, Joined-count-lt8}
 use Rattle.line.proofs.encoding.pour.Goals as goal
 
 -- the chips at hand, with those of one byte more
 more : (c : After-coded_byte)
     → let u = c.unit-unit.result in
     let a = c.args in
-    let now = c.loop-j in
+    let now = c.loop-byte in
     Held (sent_chip (code_of a.code) a.s.now) u (now.held * 2 ^ u + c.coded_byte.result) (now.count + u)
-    (now.i + 1) now.j
+    (now.i + 1) now.byte-index
 more c =
-    held_more c.loop-j.invariant.at_hand (rw c.unit-unit.ensures c.coded_byte.ensures)
+    held_more c.loop-byte.invariant.at_hand (rw c.unit-unit.ensures c.coded_byte.ensures)
 
 -- at least eight chips are at hand
 ready : (c : Joined-count-lt8)
     → let a = c.args in
     Held (sent_chip (code_of a.code) a.s.now) c.unit-unit.result c.if-count-lt8.held c.if-count-lt8.count
     c.if-count-lt8.i
-    c.loop-j.j × ((8 ≤ c.if-count-lt8.count) × (c.if-count-lt8.count ≤ 23))
+    c.loop-byte.byte-index × ((8 ≤ c.if-count-lt8.count) × (c.if-count-lt8.count ≤ 23))
 ready c =
-    let inv = c.loop-j.invariant in
+    let inv = c.loop-byte.invariant in
     elim c.if-count-lt8.branch [
       | then-count-lt8 w ↦ (
         rw (w.held-is ∙ w.join-held.ensures, w.count-is, w.i-is)
@@ -46,14 +45,8 @@ ready c =
       )
     ]
 
--- as long as it was
-kept : (c : At-loop-j)
-    → length c.loop-j.out ≡ length c.args.out.now
-kept c =
-    pouring_length c.loop-j.invariant c.requires.1
-
-pub loop-j-init : goal.loop-j-init
-loop-j-init c =
+pub loop-byte-init : goal.loop-byte-init
+loop-byte-init c =
     let a = c.args in
     let law = lawful a.code in
     let bit = sent_chip-lt (code_of a.code) a.s.now in
@@ -61,7 +54,7 @@ loop-j-init c =
 
 pub join-held-requires : goal.join-held-requires
 join-held-requires c =
-    let inv = c.loop-j.invariant in
+    let inv = c.loop-byte.invariant in
     let source = inv.source in
     omega (
       arith,
@@ -70,39 +63,12 @@ join-held-requires c =
           (omega (arith, source.unit_le, c.if-count-lt8.true)),
     )
 
-pub overflow_add-count : goal.overflow_add-count
-overflow_add-count c =
-    let inv = c.loop-j.invariant in
-    omega (arith, inv.source.unit_le, inv.few)
-
-pub overflow_add-i : goal.overflow_add-i
-overflow_add-i c =
-    omega (arith, pouring_next c.loop-j.invariant c.if-count-lt8.true)
-
-pub overflow_sub-count : goal.overflow_sub-count
-overflow_sub-count c = omega (arith, (ready (goal.at.overflow_sub-count c).Joined-count-lt8).1)
-
-pub part-requires : goal.part-requires
-part-requires c = omega (arith, (ready (goal.at.part-requires c).Joined-count-lt8).1)
-
-pub overflow_cast-out : goal.overflow_cast-out
-overflow_cast-out c = omega (arith, c.part.ensures)
-
-pub bounds-out-j : goal.bounds-out-j
-bounds-out-j c =
-    omega (arith, kept (goal.at.bounds-out-j c).At-loop-j, c.requires.1, c.loop-j-test.true)
-
-pub low-held-requires : goal.low-held-requires
-low-held-requires c = omega (arith, (ready (goal.at.low-held-requires c).Joined-count-lt8).1)
-
-pub loop-j-preserved : goal.loop-j-preserved
-loop-j-preserved c =
+pub loop-byte-preserved : goal.loop-byte-preserved
+loop-byte-preserved c =
     rw (c.low-held.ensures, c.part.ensures)
-    (pouring_step c.loop-j.invariant (ready (goal.at.loop-j-preserved c).Joined-count-lt8) c.loop-j-test.true
-    c.requires.1)
+    (pouring_step c.loop-byte.invariant (ready (goal.at.loop-byte-preserved c).Joined-count-lt8) c.loop-byte-test.true
+    (omega arith))
 
 pub returns : goal.returns
 unfolding encoding packed
-returns c =
-    let given = c.requires in
-    rw (← given.0) (pouring_end c.loop-j.invariant c.loop-j-test.false)
+returns c = rw (← c.requires) (pouring_end c.loop-byte.invariant c.loop-byte-test.false refl)

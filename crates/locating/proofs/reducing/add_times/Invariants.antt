@@ -1,6 +1,4 @@
 -- `locating::reducing::add_times` meets its contract. Assumes nothing.
-use Prim.Native.Nat.{◌-◌}
-use lib.ListN.{length}
 use Rattle.ground.specs.Sums.{xors}
 use Rattle.ground.proofs.InPlaceLaws.{elements, InPlace}
 use Rattle.field.specs.Polynomials.{scaled}
@@ -8,6 +6,3 @@ use Rattle.locating.proofs.reducing.add_times.Given as goal
 
 abbrev pub invariant-loop-k : goal.invariant-loop-k
 invariant-loop-k l = InPlace (elements (xors l.initial.v (scaled l.f l.p))) l.initial.v l.v l.k
-
-abbrev pub decreases-loop-k : goal.decreases-loop-k
-decreases-loop-k l = length l.p - l.k

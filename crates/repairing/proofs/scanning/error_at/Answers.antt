@@ -1,7 +1,5 @@
 -- `repairing::scanning::error_at` meets its contract. Assumes nothing.
-use native.Mathlib.Omega.{arith}
-use mathlib.Core.Path.{sym, ap, ◌∙◌}
-use Prim.Native.Nat.{◌*◌, ◌%◌}
+use Rattle.std.proofs.Common.{◌*◌, ◌%◌, ap, arith, sym, ◌∙◌}
 use Rattle.field.specs.Field.{mul}
 use Rattle.repairing.proofs.ValueLaws.{first_term, term_positive}
 use Rattle.repairing.proofs.scanning.error_at.Goals as goal
@@ -9,12 +7,7 @@ use Rattle.repairing.proofs.scanning.error_at.Goals as goal
 pub ratio-requires : goal.ratio-requires
 ratio-requires c =
     let a = c.args in
-    let some = c.requires.s_len.1.1.0 in
-    record {
-      tables_ok = c.requires.tables_ok;
-      b_nonzero = term_positive a.y (1232 * a.place % 255) some (omega arith)
-          c.times_power-whole.ensures;
-    }
+    term_positive a.y (1232 * a.place % 255) c.requires.1.0 (omega arith) c.times_power-whole.ensures
 
 pub returns : goal.returns
 returns c =

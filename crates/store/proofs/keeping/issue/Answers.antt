@@ -19,7 +19,8 @@ returns-then-own c =
 
 pub returns-in_err-number : goal.returns-in_err-number
 returns-in_err-number c =
-    let used = used_up c.checked_add.result (c.at-own.result.number + 1) c.checked_add.ensures c.in_err-number.ensures.value in
+    let used = used_up c.checked_add.result (c.at-own.result.number + 1) c.checked_add.ensures
+    c.in_err-number.ensures.value in
     let last = issue_last c.in_ok-held.ensures.held c.args.address c.find.result c.find.ensures
     c.in_ok-place.ensures.value c.at-own.ensures c.if-own.false (omega (arith, used.0)) in
     search rules

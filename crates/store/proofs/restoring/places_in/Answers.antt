@@ -22,7 +22,8 @@ loop-i-preserved c =
     (elim c.match-find.branch [
       | in-Some w ↦
           rw (w.places-is, w.total-is)
-          (placed_held so_far (omega arith) (rw (c.at.ensures, key, c.requires) at w.in-Some.ensures.1) w.in-Some.ensures.0)
+          (placed_held so_far (omega arith) (rw (c.at.ensures, key, c.requires) at w.in-Some.ensures.1)
+          w.in-Some.ensures.0)
       | in-None w ↦
           rw (w.places-is, w.total-is)
           (placed_new so_far (omega arith) (rw (c.at.ensures, key, c.requires) at w.in-None.ensures) file.meters

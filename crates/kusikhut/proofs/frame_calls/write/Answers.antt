@@ -1,7 +1,0 @@
--- `kusikhut::frame_calls::write`: the outcome of the call below, told.
-use Rattle.kusikhut.specs.Told.{told_written}
-use Rattle.kusikhut.proofs.ToldLaws.{shown_tells}
-use Rattle.kusikhut.proofs.frame_calls.write.Goals as goal
-
-pub returns : goal.returns
-returns c = shown_tells told_written c.write.ensures c.tell_written.ensures

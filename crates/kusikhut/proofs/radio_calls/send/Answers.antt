@@ -1,7 +1,0 @@
--- `kusikhut::radio_calls::send`: the outcome of the call below, told.
-use Rattle.kusikhut.specs.Told.{told_written}
-use Rattle.kusikhut.proofs.ToldLaws.{shown_tells}
-use Rattle.kusikhut.proofs.radio_calls.send.Goals as goal
-
-pub returns : goal.returns
-returns c = shown_tells told_written c.send.ensures c.tell_written.ensures

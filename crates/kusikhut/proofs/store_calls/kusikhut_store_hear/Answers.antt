@@ -1,8 +1,0 @@
--- `kusikhut::store_calls::kusikhut_store_hear`: the outcome of the call below, told.
-use Rattle.kusikhut.specs.Told.{told_written}
-use Rattle.kusikhut.proofs.ToldLaws.{shown_tells}
-use Rattle.kusikhut.proofs.store_calls.kusikhut_store_hear.Goals as goal
-
-pub returns : goal.returns
-returns c =
-    rw (← c.key.ensures) (shown_tells told_written c.hear.ensures c.tell_written.ensures)
