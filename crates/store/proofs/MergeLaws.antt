@@ -2,31 +2,43 @@
 --     Merge            what is known where this begins
 --     room_at          memory has room for the meters at each step
 --     place-lt         the next one's place is one of the 64
---     merge_known      its bytes at its place: one that is held, or one that is not
+--     merge_held, merge_new    its bytes at its place: one that is held, and one that is not
 -- Assumes nothing.
-use mathlib.Core.List.{List}
+use mathlib.Core.Bool.{true}
+use mathlib.Core.List.{List, [], ◌∷◌, ◌++◌}
 use mathlib.Core.Path.{◌≡◌, ◌∙◌, ap, sym}
-use Prim.Native.Nat.{ℕ, suc, ◌+◌, ◌*◌, ◌≤◌, ◌<◌}
+use Prim.Native.Nat.{ℕ, suc, ◌+◌, ◌*◌, ◌≤◌, ◌<◌, max}
 use native.Mathlib.Omega.{arith}
-use borrow.Author.Tests.{ltb-true, ltb-false}
-use lib.Dec.{ltb}
-use lib.ListN.{length, drop}
-use lib.Seq.{sets}
+use lib.ListN.{length, take, drop, length-drop}
+use lib.Seq.{sets, drop-drop, take-take}
 use Rattle.ground.specs.Bytes.{Bytes}
-use Rattle.ground.proofs.CaseLaws.{by_test}
+use Rattle.ground.proofs.ByteLaws.{bytes_drop}
 use Rattle.address.proofs.KeyLaws.{key_at_lt}
 use Rattle.sessions.specs.declared.Meter.{Meter}
 use Rattle.sessions.specs.Meters.{stranger, meter_of}
 use Rattle.sessions.specs.Changes.{merged}
-use Rattle.sessions.specs.StoreFile.{meter_bytes, meter_in, meters_in}
-use Rattle.sessions.proofs.MetersInLaws.{length-meters_in}
+use Rattle.sessions.specs.StoreFile.{meter_bytes, meter_in, meters_in, right_meter}
+use Rattle.sessions.proofs.MeterBytesLaws.{take-meter_bytes}
+use Rattle.sessions.proofs.MetersInLaws.{right_meter_at, length-meters_in}
 use Rattle.sessions.proofs.PutValidLaws.{AllFit, all_fit_meter_of}
 use Rattle.sessions.proofs.PutLaws.{meter_of-stranger}
-use Rattle.store.specs.Inner.{place_of, address_at, restored_to, MetersFrom, merging, known_at}
+use Rattle.store.specs.Inner.{place_of, address_at, restored_to, MetersFrom, merging}
 use Rattle.store.proofs.MeterAtLaws.{key_at_drop}
 use Rattle.store.proofs.PlaceLaws.{meter_of_place_of}
 use Rattle.store.proofs.MergingLaws.{merging_put, meter_in-merging}
 use Rattle.store.proofs.RestoredToLaws.{length-restored-le, length-restored_to-le, restored_to-suc, all_fit_restored_to, place_of_next_lt, new_before}
+
+max_none : (n : ℕ) → max 0 n ≡ n
+max_none n = omega arith
+
+-- the bytes of a meter that was not held
+unsure_bytes :
+    (t : List ℕ) → Bytes t → 20 ≤ length t → right_meter t ≡ true
+    → take 19 t ++ (1 ∷ []) ≡ meter_bytes (merged (stranger (meter_in t).address) (meter_in t))
+unsure_bytes t bytes room right =
+    rw (take-take 19 20 t (omega arith)) at
+    (ap (λ (u : List ℕ). take 19 u ++ (1 ∷ [])) (take-meter_bytes t bytes room right))
+    ∙ rw (max_none (meter_in t).number)
 
 pub record Merge (s : List ℕ) (count : ℕ) (file : List ℕ) (first n : ℕ) : Type 0 where
   pub theirs : MetersFrom first n file
@@ -44,6 +56,11 @@ module _ {s : List ℕ} {count : ℕ} {file : List ℕ} {first n : ℕ} (m : Mer
     place-lt =
         let grows = length-restored_to-le s count file first (suc i) n (omega arith) in
         omega (arith, m.few, grows, place_of_next_lt s count file first i)
+
+    right_at : right_meter (drop (first + 20 * i) file) ≡ true
+    right_at =
+        ap right_meter (sym (drop-drop (20 * i) first file))
+        ∙ right_meter_at n (drop first file) i m.theirs.right low
 
     all_fit : AllFit (restored_to s count file first i)
     all_fit = all_fit_restored_to s count file first i m.bytes m.file_bytes
@@ -94,7 +111,7 @@ module _ {s : List ℕ} {count : ℕ} {file : List ℕ} {first n : ℕ} (m : Mer
             ∙ (merging_put s R (room_at (omega arith)) a new (omega (arith, m.room, place-lt))
             ∙ ap (merging s) (rw is (sym (restored_to-suc s count file first i)))))
 
-        merge_held : p < count → let own = meter_in (drop (8 + 20 * p) t) in
+        pub merge_held : p < count → let own = meter_in (drop (8 + 20 * p) t) in
             sets t (8 + 20 * p) (meter_bytes (merged own (meter_in (drop (first + 20 * i) file))))
             ≡ merging s (restored_to s count file first (suc i))
         merge_held held =
@@ -103,12 +120,12 @@ module _ {s : List ℕ} {count : ℕ} {file : List ℕ} {first n : ℕ} (m : Mer
             (ap (λ (u : List ℕ). meter_in (drop (8 + 20 * p) u)) so_far
             ∙ (ap (λ (k : ℕ). meter_in (drop (8 + 20 * k) (merging s R))) placed ∙ meter_in_held (omega arith)))
 
-        pub merge_known :
-            {own : Meter} → own ≡ known_at t count p (meter_in (drop (first + 20 * i) file)).address
-            → sets t (8 + 20 * p) (meter_bytes (merged own (meter_in (drop (first + 20 * i) file))))
+        pub merge_new :
+            count ≤ p
+            → sets t (8 + 20 * p) (take 19 (drop (first + 20 * i) file) ++ (1 ∷ []))
             ≡ merging s (restored_to s count file first (suc i))
-        merge_known is =
-            by_test (ltb p count) (λ held. rw (is, held) (merge_held (ltb-true p count held)))
-            (λ new. rw (is, new)
-            (merge_next (stranger (meter_in (drop (first + 20 * i) file)).address)
-            (stranger_new (omega (arith, placed, ltb-false p count new)))))
+        merge_new new =
+            let at = first + 20 * i in
+            let room : 20 ≤ length (drop at file) = omega (arith, length-drop at file, m.theirs.room) in
+            ap (sets t (8 + 20 * p)) (unsure_bytes (drop at file) (bytes_drop at file m.file_bytes) room right_at)
+            ∙ merge_next (stranger (meter_in (drop at file)).address) (stranger_new (omega arith))

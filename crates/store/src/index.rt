@@ -1,10 +1,10 @@
 // The meters of a memory or a file, each found by its address.
-ghost use Rattle.std.specs.Prelude.{◌≡◌, true, false, ◌&&◌, [], ℕ, ◌+◌, ◌*◌, ◌≤◌, ◌<◌, length, drop, MatchOption};
+ghost use Rattle.std.specs.Prelude.{◌≡◌, true, false, ◌&&◌, [], ℕ, ◌+◌, ◌*◌, ◌≤◌, ◌<◌, length, take, drop, MatchOption};
 ghost use Rattle.ground.specs.Bytes.{Bytes};
 ghost use Rattle.sessions.specs.StoreFile.{meter_in, meters_in, all_right, unlike};
 ghost use Rattle.store.specs.Inner.{place_of, slot_of, FoundAt, MetersFrom, Indexed};
 
-use crate::meters::{self, METER};
+use crate::meters::{self, MARK, METER};
 use sessions::Meter;
 
 // The most meters that a store holds.
@@ -115,5 +115,15 @@ impl<'a> Index<'a> {
         ensures { result ≡ meter_in (drop (self.now.first + 20 * place) self.now.bytes.now) }
     {
         meters::meter_at(self.bytes, self.first + METER * place)
+    }
+
+    // The bytes of the meter at a place, but for its mark.
+    pub(crate) fn unmarked(&self, place: usize) -> &[u8]
+        requires { place < self.now.count }
+        ensures { (result.now ≡ take 19 (drop (self.now.first + 20 * place) self.now.bytes.now))
+            × (length result.now ≡ 19) }
+    {
+        let at = self.first + METER * place;
+        &self.bytes[at..at + MARK]
     }
 }

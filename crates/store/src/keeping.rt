@@ -41,7 +41,7 @@ pub fn empty(store: &mut [u8]) -> Result<usize, Refusal>
 
 // What the memory holds of the meter at `place`. Behind the last one stands what is known of a stranger: it starts
 // unsure, at number 0; its mode and format are of no meaning.
-pub(crate) fn known(store: &[u8], count: usize, place: usize, address: u64) -> Meter
+fn known(store: &[u8], count: usize, place: usize, address: u64) -> Meter
     requires { (count ≤ 64) × (1288 ≤ length store.now) }
     ensures { result ≡ known_at store.now count place address }
 {

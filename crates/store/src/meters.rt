@@ -1,12 +1,14 @@
 // One meter of the store: its twenty bytes (document 02, 9/14, "On disk").
-ghost use Rattle.std.specs.Prelude.{◌≡◌, ◌+◌, ◌≤◌, length, drop};
+ghost use Rattle.std.specs.Prelude.{◌≡◌, [], ◌∷◌, ◌++◌, ◌+◌, ◌≤◌, length, drop};
 ghost use Rattle.std.proofs.lemmas.List.Edits.{sets};
 ghost use Rattle.sessions.specs.StoreFile.{meter_bytes, meter_in, right_meter};
 
 use sessions::Meter;
 
-// Bytes of a meter.
+// Bytes of a meter; the last of them is its unsure mark.
 pub(crate) const METER: usize = 20;
+
+pub(crate) const MARK: usize = METER - 1;
 
 // Whether the twenty bytes from `at` on are a meter: every length byte is right, every value in its list.
 pub(crate) fn right_meter(s: &[u8], at: usize) -> bool
@@ -72,5 +74,14 @@ pub(crate) fn put_meter(out: &mut [u8], at: usize, m: Meter)
     out[at + 13] = 4;
     address::put_number(out, at + 14, m.number);
     out[at + 18] = 1;
-    out[at + 19] = u8::from(m.unsure);
+    out[at + MARK] = u8::from(m.unsure);
+}
+
+// Stores a meter's bytes as they stand from `at` on, and the unsure mark behind them.
+pub(crate) fn put_unsure(out: &mut [u8], at: usize, unmarked: &[u8])
+    requires { (length unmarked.now ≡ 19) × (at + 20 ≤ length out.old) }
+    ensures { out.new ≡ sets out.old at (unmarked.now ++ (1 ∷ [])) }
+{
+    out[at..at + MARK].copy_from_slice(unmarked);
+    out[at + MARK] = 1;
 }

@@ -7,7 +7,7 @@ ghost use Rattle.store.specs.Inner.{Planned, allowance_of, restored_to, placed_i
 use crate::index::{Index, LIMIT};
 use crate::judging::HEAD;
 use crate::meters::METER;
-use crate::{judging, keeping, meters};
+use crate::{judging, meters};
 use answers::Refusal;
 use sessions::Meter;
 
@@ -61,7 +61,7 @@ fn places_in(held: &Index, theirs: &Index) -> ([u8; LIMIT], usize)
 }
 
 // Brings a file's meters to their places in a memory with `count` meters. One that was held keeps its own mark and the
-// larger number, all else is the file's; another one comes as a stranger, unsure.
+// larger number, all else is the file's. Another one comes unsure, its other bytes as they stand.
 fn merge_all(store: &mut [u8], count: usize, theirs: &Index, places: &[u8; LIMIT])
     requires { Planned store.old count theirs.now.bytes.now theirs.now.first theirs.now.count places.now }
     ensures { store.new ≡ merging store.old
@@ -69,13 +69,18 @@ fn merge_all(store: &mut [u8], count: usize, theirs: &Index, places: &[u8; LIMIT
 {
     for i in 0..theirs.count {
         let place = places[i] as usize;
-        let m = theirs.at(i);
-        let own = keeping::known(store, count, place, m.address);
-        let merged = Meter {
-            number: own.number.max(m.number),
-            unsure: own.unsure,
-            ..m
-        };
-        meters::put_meter(store, HEAD + METER * place, merged);
+        let k = HEAD + METER * place;
+        if place < count {
+            let own = meters::meter_at(store, k);
+            let m = theirs.at(i);
+            let merged = Meter {
+                number: own.number.max(m.number),
+                unsure: own.unsure,
+                ..m
+            };
+            meters::put_meter(store, k, merged);
+        } else {
+            meters::put_unsure(store, k, theirs.unmarked(i));
+        }
     }
 }

@@ -1,9 +1,9 @@
 use native.Mathlib.Numerals.{add-one}
 use native.Mathlib.Omega.{arith}
 use Rattle.store.proofs.MergingLaws.{merging_same}
-use Rattle.store.proofs.MergeLaws.{Merge, place-lt, merge_known}
+use Rattle.store.proofs.MergeLaws.{Merge, place-lt, merge_held, merge_new}
 use Rattle.store.proofs.RestoredToLaws.{restored_to-zero}
-use Rattle.store.proofs.restoring.merge_all.Goals.{Start}
+use Rattle.store.proofs.restoring.merge_all.Goals.{Start, then-place-count, else-place-count}
 use Rattle.store.proofs.restoring.merge_all.Goals as goal
 
 knows : (c : Start) → let a = c.args in let f = a.theirs.now in Merge a.store.now a.count f.bytes.now f.first f.count
@@ -18,19 +18,30 @@ loop-i-init c =
     rw (restored_to-zero a.store.now a.count a.theirs.now.bytes.now a.theirs.now.first)
     (merging_same c.requires.bytes c.requires.own)
 
-pub put_meter-requires : goal.put_meter-requires
-put_meter-requires c =
+pub put_unsure-requires : goal.put_unsure-requires
+put_unsure-requires c =
     let i = c.loop-i.i in
-    omega (
-      arith,
-      c.requires.placed i c.loop-i-test.true,
-      place-lt (knows (goal.at.put_meter-requires c).Start) i c.loop-i-test.true,
-      c.requires.room,
+    let known = knows (goal.at.put_unsure-requires c).Start in (
+      c.unmarked.ensures.1,
+      omega (
+        arith,
+        c.requires.placed i c.loop-i-test.true,
+        place-lt known i c.loop-i-test.true,
+        c.requires.room,
+      ),
     )
 
 pub loop-i-preserved : goal.loop-i-preserved
 loop-i-preserved c =
     let i = c.loop-i.i in
-    rw (add-one i, c.put_meter.ensures, c.max.ensures, c.at-m.ensures)
-    (merge_known (knows (goal.at.loop-i-preserved c).Start) i c.loop-i-test.true c.loop-i.invariant
-    (c.requires.placed i c.loop-i-test.true) (rw c.at-m.ensures at c.known-own.ensures))
+    let known = knows (goal.at.loop-i-preserved c).Start in
+    let placed = c.requires.placed i c.loop-i-test.true in
+    rw (add-one i)
+    (elim c.if-place-count.branch [
+      | then-place-count w ↦
+          rw (w.store-is, w.put_meter.ensures, w.max.ensures, w.at-m.ensures, w.meter_at-own.ensures)
+          (merge_held known i c.loop-i-test.true c.loop-i.invariant placed w.if-place-count.true)
+      | else-place-count w ↦
+          rw (w.store-is, w.put_unsure.ensures, w.unmarked.ensures.0)
+          (merge_new known i c.loop-i-test.true c.loop-i.invariant placed w.if-place-count.false)
+    ])
