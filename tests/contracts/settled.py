@@ -34,8 +34,7 @@ OTHERWISE = {"products::Tables::ratio": ["mul result b ≡ a"],
 # an entry point or exported
 LEFT_OPEN = {"locating::locate", "repairing::repair"}
 # words of the toolchain that may stand in a RIGHT; HEADS may also begin it, as the bytes that are stored from a place on
-# (`sets`) or copied there (`paste`)
-KIT, HEADS = {"length", "drop", "replicate"}, {"sets", "paste"}
+KIT, HEADS = {"length", "drop", "replicate"}, {"sets"}
 # where the words that equations are made of must come from
 HOMES = {"◌≡◌": "Rattle.std.specs.Prelude", "leaving": "Rattle.answers.specs.Outcome",
          "told": "Rattle.kusikhut.specs.Told", "shown": "Rattle.kusikhut.specs.Told"}
