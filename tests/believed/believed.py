@@ -117,14 +117,19 @@ def functions(path, public):
             yield Item(str(path), m.group(3), lines[no:end + 1])
 
 
-def ghosts(path):
-    """The ghost fields and ghost members of a source file: what a type, a trait or an impl promises of itself."""
+def ghosts(path, public):
+    """The ghost fields and ghost members of a source file: what a type, a trait or an impl promises of itself. They are
+    public where the type, or the type that the impl is for, and the trait are."""
     lines = code(path)
+    inner = re.findall(r"^(?:pub\(crate\) )?(?:struct|enum|trait) (\w+)", "\n".join(lines), re.M)
+    holder = ""
     for no, line in enumerate(lines):
+        holder = line if re.match(r"(pub|struct|enum|trait|impl)", line) else holder
         m = re.match(r"\s+ghost (\w+)\s*[:=]", line)
         if m:
             end = next(k for k in range(no, len(lines)) if lines[k].endswith((";", ",")))
-            yield Item(str(path), m.group(1), lines[no:end + 1])
+            if public != any(re.search(rf"\b{name}\b", holder) for name in inner):
+                yield Item(str(path), m.group(1), lines[no:end + 1])
 
 
 class House:
@@ -143,8 +148,8 @@ class House:
                 key = f"Rattle.{path.parts[1]}.specs.declared.{inner}{item.name}", item.name
                 self.defined[key] = item
                 self.types[path.parts[1], item.name] = key
-            self.public += functions(path, True)
-            self.inner += [*functions(path, False), *ghosts(path)]
+            self.public += [*functions(path, True), *ghosts(path, True)]
+            self.inner += [*functions(path, False), *ghosts(path, False)]
         read = []
         for path in sorted(crates.glob("*/specs/*.antt")) + sorted(crates.glob("*/proofs/*.antt")):
             module = f"Rattle.{path.parts[1]}.{path.parts[2]}" + ("" if path.stem == "Lib" else "." + path.stem)

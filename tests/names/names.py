@@ -7,8 +7,8 @@ Looks at README.md, CONTRIBUTING.md and docs/**/*.md, blocks of code aside:
   `crate::function`             the crate's sources declare it
   `path/with/slashes`, links    the path is there
   `name`                        any other single word stands somewhere in the sources
-A change's note (docs/changes) and the port's pages (docs/PORT*.md) name what is gone: there, only paths of links are
-looked at.
+A change's note (docs/changes), the port's pages (docs/PORT*.md) and the design pass (docs/DESIGN-PASS.md) name what is
+gone: there, only paths of links are looked at.
 Prints what is not found, and exits with 1 if there is anything.
 """
 import re
@@ -79,7 +79,7 @@ def ticked(text, current):
 
 def faults(path, text):
     text = re.sub(r"```.*?```", lambda m: "\n" * m.group().count("\n"), text, flags=re.S)
-    found, links_only = [], "changes" in path.parts or path.name.startswith("PORT")
+    found, links_only = [], "changes" in path.parts or path.name.startswith(("PORT", "DESIGN-PASS"))
     for no, line in enumerate(text.splitlines(), 1):
         if line.startswith("    "):
             continue

@@ -21,7 +21,7 @@ use Rattle.codewords.specs.Corrections.{id_of, put_corrected, correcting_of, che
 use Rattle.codewords.proofs.UniqueLaws.{corrects_checks, corrects_only}
 use Rattle.demands.specs.Rules.{Rule, given, Judged, JudgedLent}
 use Rattle.demands.specs.CorrectionLadders.{write_rule, check_bytes_rule, announce_rule}
-use Rattle.demands.proofs.RuleLaws.{Follows, judged, judged_lent, taken_bare, passed_bare, follows-lt, follows_unless, never_refused, unchanged}
+use Rattle.demands.proofs.RuleLaws.{Follows, judged, judged_err, taken_bare, passed_bare, follows-lt, follows_unless, never_refused, unchanged}
 use Rattle.demands.proofs.FrameRuleLaws.{judge_follows}
 use Rattle.demands.proofs.CorrectionCaseLaws.{id_is, is_id}
 
@@ -55,7 +55,7 @@ check_bytes_follow w bytes d =
 pub check_bytes_judged :
     (w : List ℕ) → Bytes w → (d : List ℕ) → JudgedLent Err d (check_bytes_rule w d) (checking_of w d)
 check_bytes_judged w bytes d =
-    judged_lent (λ x r a. never_refused x r a.1.1) (check_bytes_follow w bytes d)
+    judged_err (λ x r a. never_refused x r a.1.1) (check_bytes_follow w bytes d)
 
 write_follows :
     (f : Format) (s : List ℕ) → Bytes s → (d : List ℕ)
@@ -72,4 +72,4 @@ pub write_judged :
     (f : Format) (s : List ℕ) → Bytes s → (d : List ℕ)
     → JudgedLent Err d (write_rule f s d) (correcting_of f s d)
 write_judged f s bytes d =
-    judged_lent (λ x r a. never_refused x r a.1.1.1.1) (write_follows f s bytes d)
+    judged_err (λ x r a. never_refused x r a.1.1.1.1) (write_follows f s bytes d)

@@ -29,7 +29,7 @@ use Rattle.frame.proofs.FormatLaws.{true_within}
 use Rattle.demands.specs.Rules.{Rule, ◌when◌else◌, ◌showing◌else◌, given, accept, Judged, JudgedLent}
 use Rattle.demands.specs.Cases.{Announces, NotAllowed, FirstWrongBlock, BadContent}
 use Rattle.demands.specs.Ladders.{update_rule, size_rule, judge_steps, judge_rule, read_rule, change_rule, write_rule}
-use Rattle.demands.proofs.RuleLaws.{Follows, judged, judged_lent, taken_bare, passed_bare, tells-lt, follows-lt, follows_unless, never_refused, unchanged}
+use Rattle.demands.proofs.RuleLaws.{Follows, judged, judged_err, taken_bare, passed_bare, tells-lt, follows-lt, follows_unless, never_refused, unchanged}
 use Rattle.demands.proofs.CaseLaws.{allowed_announces, announces_allowed, announces_same, first_wrong_block, no_wrong_block, wrong_block_same}
 
 module _ {B : Type 0} {refused : Refusal → B} (told : Result Frame Refusal → B)
@@ -148,7 +148,7 @@ module _ (f : Format) (s : List ℕ) where
 
   pub read_judged : (d : List ℕ) → JudgedLent Err d (read_rule f s d) (reading_of f s d)
   read_judged d =
-      judged_lent (λ x r a. never_refused x r a.1.1.1.1.1) (read_follows d)
+      judged_err (λ x r a. never_refused x r a.1.1.1.1.1) (read_follows d)
 
   change_follows :
       (k b : ℕ) → Follows (unchanged s) (change_rule f s k b) (changing_of f s k b)
@@ -161,7 +161,7 @@ module _ (f : Format) (s : List ℕ) where
 
   pub change_judged : (k b : ℕ) → JudgedLent Err s (change_rule f s k b) (changing_of f s k b)
   change_judged k b =
-      judged_lent (λ x r a. never_refused x r a.1.1.1.1.1) (change_follows k b)
+      judged_err (λ x r a. never_refused x r a.1.1.1.1.1) (change_follows k b)
 
 -- 5: what the two tests of a content's length say
 pub content_kept : (f : Format) (n : ℕ) → within (form_of f).shortest (form_of f).longest n ≡ true → BadContent f n → ⊥
@@ -197,7 +197,7 @@ module _ (f : Format) (c d : List ℕ) where
 pub write_judged : (f : Format) (c d : List ℕ) → JudgedLent Err d (write_rule f c d) (writing_of f c d)
 unfolding writing_of
 write_judged f c d =
-    judged_lent never_refused
+    judged_err never_refused
     (write_follows f c d (within (form_of f).shortest (form_of f).longest (length c))
     (ltb (length d) (frame_size f (length c))) refl refl)
 

@@ -25,7 +25,7 @@ use Rattle.line.proofs.GoodRunLaws.{good_run-le}
 use Rattle.demands.specs.Rules.{Rule, ◌when◌else◌, ◌showing◌else◌, accept, Judged, JudgedLent}
 use Rattle.demands.specs.Cases.{ChipsEnd, CodeWord, FirstNoWord}
 use Rattle.demands.specs.Ladders.{decode_rule, encode_rule, word_steps, word_rule, reader_rule, step_rule}
-use Rattle.demands.proofs.RuleLaws.{Follows, judged, judged_lent, tells-lt, follows-lt, follows_unless, follows_showing, taken_bare, passed_bare, never_refused, unchanged}
+use Rattle.demands.proofs.RuleLaws.{Follows, judged, judged_err, tells-lt, follows-lt, follows_unless, follows_showing, taken_bare, passed_bare, never_refused, unchanged}
 use Rattle.demands.proofs.CaseLaws.{range_kept, range_left, first_no_word, no_first_word, first_word_same, no_word}
 
 -- the words of n bytes from chip `at` on: 1, 6, then what comes next
@@ -60,12 +60,12 @@ module _ (κ : LineCode) (s : List ℕ) where
   pub decode_judged :
       (start n : ℕ) (d : List ℕ) → JudgedLent Err d (decode_rule κ s start n d) (decoded κ s start n d)
   decode_judged start n d =
-      judged_lent never_refused (decode_follows start n d)
+      judged_err never_refused (decode_follows start n d)
 
   pub encode_judged : (d : List ℕ) → JudgedLent Err d (encode_rule κ s d) (encoded κ s d)
   unfolding encoded
   encode_judged d =
-      judged_lent never_refused
+      judged_err never_refused
       (follows-lt (length d) (encoded_size κ (length s)) Refusal.NoRoom refl refl (λ room. Follows.ended refl))
 
 -- one word, of which `told` makes what the call answers

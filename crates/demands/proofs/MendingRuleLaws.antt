@@ -27,7 +27,7 @@ use Rattle.proposals.proofs.ReceivedLaws.{length-received, bytes-received}
 use Rattle.proposals.proofs.ProposalLaws.{corrects_code, code_corrects}
 use Rattle.demands.specs.Rules.{Rule, ◌when◌else◌, given, Judged, JudgedLent}
 use Rattle.demands.specs.MendingLadders.{size_steps, compare_steps, judge_rule, propose_steps, propose_rule}
-use Rattle.demands.proofs.RuleLaws.{Follows, Tells, judged, judged_lent, taken_bare, passed_bare, follows_when, follows-lt, follows_unless, never_refused, unchanged}
+use Rattle.demands.proofs.RuleLaws.{Follows, Tells, judged, judged_err, taken_bare, passed_bare, follows_when, follows-lt, follows_unless, never_refused, unchanged}
 use Rattle.demands.proofs.FrameRuleLaws.{size_follows}
 
 -- ---- the size: 1, 2, 23, then the rest
@@ -152,5 +152,5 @@ pub propose_judged :
     (k : ℕ) → k ≤ 16 → (f : Format) (s : List ℕ) → Bytes s → (d : List ℕ)
     → JudgedLent Err d (propose_rule k f s d) (proposing_of k f s d)
 propose_judged k few f s bytes d =
-    judged_lent (λ x r a. never_refused x r a.1.1.1.1)
+    judged_err (λ x r a. never_refused x r a.1.1.1.1)
     (propose_follows k few f s bytes d)

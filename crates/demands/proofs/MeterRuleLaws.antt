@@ -21,12 +21,12 @@ use Rattle.filter.proofs.ListedLaws.{in_use_listed, listed_in_use}
 use Rattle.demands.specs.Rules.{Rule, ◌when◌else◌, accept, Judged, JudgedLent}
 use Rattle.demands.specs.Cases.{InUse}
 use Rattle.demands.specs.Ladders.{header_read_rule, header_write_rule, filter_rule}
-use Rattle.demands.proofs.RuleLaws.{Follows, judged, judged_lent, taken_bare, passed_bare, follows-lt, never_refused}
+use Rattle.demands.proofs.RuleLaws.{Follows, judged, judged_err, taken_bare, passed_bare, follows-lt, never_refused}
 
 pub header_write_judged :
     (h : Header) (d : List ℕ) → JudgedLent Err d (header_write_rule h d) (header_writing_of h d)
 header_write_judged h d =
-    judged_lent never_refused
+    judged_err never_refused
     (follows-lt (length d) (header_length h.kind) Refusal.NoRoom refl refl (λ room. Follows.ended refl))
 
 -- two kinds with one CI byte are one

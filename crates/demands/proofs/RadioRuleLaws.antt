@@ -46,7 +46,7 @@ use Rattle.radio.specs.Heard.{heard_of}
 use Rattle.demands.specs.Rules.{Rule, ◌when◌else◌, ◌showing◌else◌, accept, JudgedLent}
 use Rattle.demands.specs.Cases.{ChipsEnd, FirstNoWord, Announces, FirstWrongBlock}
 use Rattle.demands.specs.Ladders.{frame_steps, receive_rule, manchester_rule, send_rule, tail_steps}
-use Rattle.demands.proofs.RuleLaws.{Follows, judged_lent, taken_bare, passed_bare, tells-lt, follows-lt, follows_unless, never_refused, unchanged}
+use Rattle.demands.proofs.RuleLaws.{Follows, judged_err, taken_bare, passed_bare, tells-lt, follows-lt, follows_unless, never_refused, unchanged}
 use Rattle.demands.proofs.CaseLaws.{range_kept, range_left, announces_allowed, announces_same}
 use Rattle.demands.proofs.LineRuleLaws.{words_follow}
 use Rattle.demands.proofs.FrameRuleLaws.{size_follows, checks_follow, content_kept, content_left}
@@ -189,7 +189,7 @@ module _ (s d : List ℕ) (start : ℕ) where
 
   pub receive_judged : (a : ℕ) → JudgedLent Err d (receive_rule s start a d) (reception_of s start a d)
   receive_judged a =
-      judged_lent (λ x r w. never_refused x r w.1.1.1.1.1.1.1.1.1) (receive_follows a)
+      judged_err (λ x r w. never_refused x r w.1.1.1.1.1.1.1.1.1) (receive_follows a)
 
   manchester_outside :
       in_range s start ≡ false → manchester_of s start d ≡ leaving (Err Refusal.OutOfRange) d
@@ -213,14 +213,14 @@ module _ (s d : List ℕ) (start : ℕ) where
 
   pub manchester_judged : JudgedLent Err d (manchester_rule s start d) (manchester_of s start d)
   manchester_judged =
-      judged_lent (λ x r w. never_refused x r w.1.1.1.1.1) manchester_follows
+      judged_err (λ x r w. never_refused x r w.1.1.1.1.1) manchester_follows
 
 pub send_judged : (k : Kind) (c d : List ℕ) → JudgedLent Err d (send_rule k c d) (sending_of k c d)
 unfolding sending_of putting
 send_judged k c d =
     let f = format_of k in
     rw (length_frame_of f c)
-    (judged_lent never_refused
+    (judged_err never_refused
     (follows_unless (within (form_of f).shortest (form_of f).longest (length c)) Refusal.BadContent
     (content_kept f (length c)) (content_left f (length c)) refl refl
     (λ allowed. follows-lt (length d) (air_size k (frame_size f (length c))) Refusal.NoRoom refl refl

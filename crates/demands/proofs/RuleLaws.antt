@@ -2,7 +2,7 @@
 -- which tells whether a case holds.
 --     Follows refused rule o    a way down the ladder that ends in o: taken at a case that holds, passed where none
 --                               does, found where there is just one thing to find, ended in what is accepted
---     judged, judged_lent       whoever follows a ladder is judged by it
+--     judged, judged_lent       whoever follows a ladder is judged by it; judged_err, a call that answers a Result
 --     Tells t P                 the test t says whether P holds
 --     follows_when, follows-lt, ..   a test chooses between the refusal and the rest
 use mathlib.Core.List.{List}
@@ -100,24 +100,31 @@ module _ {B : Type 0} {refused : Refusal → B} where
         ends = ladder_ends f;
       }
 
+pub judged_lent :
+    {A : Type 0} {refused : Refusal → A} {d : List ℕ} {rule : Rule (Outcome A)} {o : Outcome A}
+    → ((p q : Refusal) → refused p ≡ refused q → p ≡ q)
+    → ((x : Outcome A) (r : Refusal) → Accepts rule x → x.answer ≡ refused r → ⊥)
+    → Follows (λ r. leaving (refused r) d) rule o → JudgedLent refused d rule o
+judged_lent {A} {refused} {d} {rule} {o} same never f =
+    record {
+      judged =
+          judged (λ p q e. same p q (ap (λ (x : Outcome A). x.answer) e))
+          (λ r a. never (leaving (refused r) d) r a refl) f;
+      harmless =
+          λ r e. ⊎_elim (λ (p : (q : Refusal) × (o ≡ leaving (refused q) d)). ap (λ (x : Outcome A). x.memory) p.1)
+          (λ a. absurd (never o r a e)) (follows_ends f);
+    }
+
 -- a call that was lent the memory d, which a refusal leaves as it was
 abbrev pub unchanged : {A : Type 0} → List ℕ → Refusal → Outcome (Result A Refusal)
 unchanged d r = leaving (Err r) d
 
-pub judged_lent :
+-- the same of a call that answers a Result
+pub judged_err :
     {A : Type 0} {d : List ℕ} {rule : Rule (Outcome (Result A Refusal))} {o : Outcome (Result A Refusal)}
     → ((x : Outcome (Result A Refusal)) (r : Refusal) → Accepts rule x → x.answer ≡ Err r → ⊥)
     → Follows (unchanged d) rule o → JudgedLent Err d rule o
-judged_lent {A} {d} {rule} {o} never f =
-    record {
-      judged =
-          judged (λ p q e. let same = ap (λ (x : Outcome (Result A Refusal)). x.answer) e in cc)
-          (λ r a. never (unchanged d r) r a refl) f;
-      harmless =
-          λ r e. ⊎_elim
-          (λ (p : (q : Refusal) × (o ≡ unchanged d q)). ap (λ (x : Outcome (Result A Refusal)). x.memory) p.1)
-          (λ a. absurd (never o r a e)) (follows_ends f);
-    }
+judged_err never f = judged_lent (λ p q e. cc) never f
 
 -- an outcome that is accepted with the answer a is no refusal
 pub never_refused :

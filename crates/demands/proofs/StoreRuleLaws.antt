@@ -26,13 +26,13 @@ use Rattle.sessions.specs.Valid.{Valid, Within}
 use Rattle.sessions.proofs.PutLaws.{meter_of-address, meter_of_put}
 use Rattle.demands.specs.Rules.{Rule, ◌when◌else◌, Judged, JudgedLent}
 use Rattle.demands.specs.StoreLadders.{empty_rule, add_steps, add_rule, add_by_rule, hear_rule, issue_steps, issue_rule, full_steps, restore_rule, write_store_rule, look_up_rule, allowance_rule, set_allowance_rule, store_steps}
-use Rattle.demands.proofs.RuleLaws.{Follows, Tells, judged, judged_lent, taken_bare, passed_bare, follows-lt, never_refused, unchanged}
+use Rattle.demands.proofs.RuleLaws.{Follows, Tells, judged, judged_err, taken_bare, passed_bare, follows-lt, never_refused, unchanged}
 use Rattle.demands.proofs.StoreCaseLaws.{known_is, meter_of_known, tells_full, tells_unlisted, tells_over}
 use Rattle.demands.proofs.StoreStepLaws.{store_follows, file_follows, held_follows}
 
 pub empty_judged : (s : List ℕ) → JudgedLent Err s (empty_rule s) (emptying s)
 empty_judged s =
-    judged_lent never_refused
+    judged_err never_refused
     (follows-lt (length s) memory_size Refusal.NoRoom refl refl (λ room. Follows.ended refl))
 
 -- a call on the memory s that is refused where a test says so
@@ -82,12 +82,12 @@ module _ (s : List ℕ) (bytes : Bytes s) where
       (a : ℕ) (mode : Mode) (format : Format)
       → JudgedLent Err s (add_rule a mode format s) (adding a mode format s)
   add_judged a mode format =
-      judged_lent (λ x r w. never_refused x r w.1.1.1.1)
+      judged_err (λ x r w. never_refused x r w.1.1.1.1)
       (stored_follows (added a mode format) _ (λ st w. add_follows a mode format st w.valid))
 
   pub add_by_judged : (a k j : ℕ) → JudgedLent Err s (add_by_rule a k j s) (adding_by a k j s)
   add_by_judged a k j =
-      judged_lent (λ x r w. never_refused x r w.1.1.1.1)
+      judged_err (λ x r w. never_refused x r w.1.1.1.1)
       (stored_follows _ _
       (λ st w. kept_when stored s (ltb 5 k || ltb 1 j) Refusal.BadStore
       (added a (mode_of k) (format_of j) st) (tells_unlisted k j) refl refl
@@ -95,7 +95,7 @@ module _ (s : List ℕ) (bytes : Bytes s) where
 
   pub hear_judged : (a n : ℕ) → JudgedLent Err s (hear_rule a n s) (hearing_in a n s)
   hear_judged a n =
-      judged_lent (λ x r w. never_refused x r w.1.1.1.1)
+      judged_err (λ x r w. never_refused x r w.1.1.1.1)
       (stored_follows (hearing a n) _
       (λ st w. held_follows (λ t. kept Err stored s
       (cond (not t) (Err Refusal.NotHeld) (Ok (with_meter a (heard n (meter_of a st.meters)) st))))
@@ -112,19 +112,19 @@ module _ (s : List ℕ) (bytes : Bytes s) where
 
   pub restore_judged : (f : List ℕ) → Bytes f → JudgedLent Err s (restore_rule f s) (restoring f s)
   restore_judged f is =
-      judged_lent (λ x r w. never_refused x r w.1.1.1.1)
+      judged_err (λ x r w. never_refused x r w.1.1.1.1)
       (stored_follows _ _
       (λ st w. file_follows (λ r. kept Err stored s (r and_then (λ file. restored_by file st))) (λ r. refl)
       f is _ (λ file p. restored_follows st file p.valid)))
 
   pub set-allowance_judged : (n : ℕ) → JudgedLent Err s (set_allowance_rule n s) (setting_allowance n s)
   set-allowance_judged n =
-      judged_lent (λ x r w. never_refused x r w.1.1)
+      judged_err (λ x r w. never_refused x r w.1.1)
       (stored_follows (allowing n) _ (λ st w. Follows.ended refl))
 
   pub write_judged : (d : List ℕ) → JudgedLent Err d (write_store_rule s d) (writing_store s d)
   write_judged d =
-      judged_lent (λ x r w. never_refused x r w.1.1)
+      judged_err (λ x r w. never_refused x r w.1.1)
       (store_follows (λ r. copied r d) (λ r. refl) s bytes _
       (λ st w. follows-lt (length d) (size_of st) Refusal.NoRoom refl refl (λ room. Follows.ended refl)))
 
@@ -159,7 +159,7 @@ module _ (s : List ℕ) (bytes : Bytes s) where
 
   pub issue_judged : (a : ℕ) → JudgedLent Err s (issue_rule a s) (issuing a s)
   issue_judged a =
-      judged_lent (λ x r w. never_refused x r w.1.1.1.1)
+      judged_err (λ x r w. never_refused x r w.1.1.1.1)
       (store_follows (λ r. kept Err (number a) s (r and_then issued a)) (λ r. refl) s bytes _
       (λ st w. held_follows (λ t. kept Err (number a) s
       (cond (not t) (Err Refusal.NotHeld) (cond (m a st).unsure (Err Refusal.Unsure) (below a st))))
