@@ -4,13 +4,13 @@
 --     Copying     the walk that copies the payload out
 --     Putting     the walk that writes span after span
 --     Seeking     the walk that looks for a byte of the payload
--- In each, k is the length of the span at hand, `most` or what is left if that is less.
+-- In each, k is the length of the span at hand, `most` or what is left if that is less; in Putting the span is x.
 use mathlib.Core.Bool.{true, false}
 use mathlib.Core.List.{List, ◌++◌}
-use mathlib.Core.Path.{◌≡◌, refl, sym, ◌∙◌}
+use mathlib.Core.Path.{◌≡◌, refl, ap, sym, ◌∙◌}
 use Prim.Native.Nat.{ℕ, ◌+◌, ◌-◌, ◌≤◌, ◌<◌, min}
 use native.Mathlib.Omega.{arith}
-use lib.ListN.{length, take, drop, length-drop}
+use lib.ListN.{length, take, drop, length-append, length-drop}
 use lib.Seq.{paste, length-paste}
 use Rattle.std.specs.Prelude.{Some, None}
 use Rattle.blocks.specs.Spans.{sealed, framed, payload, block_ok, first_wrong, size_of, cut, spans}
@@ -117,43 +117,39 @@ module _ {s d out : List ℕ} {first later n at most done left : ℕ}
           same = rw is (copying_same room);
         }
 
--- `done` bytes of c are written, up to place `at`; before that `before` were, up to place `from`
-pub record Putting (c : List ℕ) (later : ℕ) (d : List ℕ) (before from : ℕ) (out : List ℕ) (done at : ℕ) : Type 0 where
-  pub below : done ≤ length c
-  pub long : length out ≡ length d
-  pub fits : at + size_of (spans later later (length c - done)) ≤ length out
+-- of the bytes c, which are written from place `from` on, the bytes `rest` are left, from place `at` on
+pub record Putting (c : List ℕ) (later : ℕ) (d : List ℕ) (from : ℕ) (out rest : List ℕ) (at : ℕ) : Type 0 where
+  pub fits : at + size_of (spans later later (length rest)) ≤ length out
   pub same :
-      let left = spans later later (length c - done) in
-      let all = spans later later (length c - before) in
-      filled out at (framed left (drop done c)) (size_of left)
-      ≡ filled d from (framed all (drop before c)) (size_of all)
+      let left = spans later later (length rest) in
+      let all = spans later later (length c) in
+      filled out at (framed left rest) (size_of left) ≡ filled d from (framed all c) (size_of all)
 
-module _ {c d out : List ℕ} {later before from done at : ℕ} (w : Putting c later d before from out done at) where
+module _ {c d out rest : List ℕ} {later from at : ℕ} (w : Putting c later d from out rest at) where
   pub putting_end :
-      length c ≤ done
-      → let all = spans later later (length c - before) in
-      out ≡ filled d from (framed all (drop before c)) (size_of all)
+      length rest ≡ 0
+      → let all = spans later later (length c) in
+      out ≡ filled d from (framed all c) (size_of all)
   unfolding framed size_of cut
-  putting_end all =
-      let none : length c - done ≡ 0 = omega arith in
-      sym (filled_end out at) ∙ rw none at w.same
+  putting_end none = sym (filled_end out at) ∙ rw none at w.same
 
-  module _ {k : ℕ} (l : 0 < later) (h : done < length c) (e : k ≡ min later (length c - done)) where
-    pub putting_fits : at + (k + 2 + size_of (spans later later (length c - done - k))) ≤ length out
-    putting_fits = omega (arith, w.fits, size_of_turn e l l (omega arith))
+  -- the span at hand is x, and t is behind it
+  module _ (x t : List ℕ) (s : rest ≡ x ++ t) (e : length x ≡ min later (length rest)) (h : 0 < length rest)
+      (l : 0 < later) where
+    behind : length t ≡ length rest - length x
+    behind = omega (arith, simp length-append at (ap length s))
+
+    pub putting_fits : at + (length x + 2 + size_of (spans later later (length t))) ≤ length out
+    putting_fits = rw behind (omega (arith, w.fits, size_of_turn e l l h))
 
     pub putting_step :
         {next : List ℕ} → length next ≡ length out
-        → next ≡ take at out ++ (sealed (take k (drop done c)) ++ drop (at + k + 2) out)
-        → Putting c later d before from next (done + k) (at + (k + 2))
+        → next ≡ take at out ++ (sealed x ++ drop (at + length x + 2) out)
+        → Putting c later d from next t (at + (length x + 2))
     putting_step size is =
-        let rest : length c - (done + k) ≡ length c - done - k = omega arith in
-        let turn = written_turn e l l (omega arith) at done c out (omega arith) (omega (arith, putting_fits)) in
         record {
-          below = omega arith;
-          long = size ∙ w.long;
-          fits = rw rest (omega (arith, putting_fits, size));
-          same = rw (is, rest) (turn ∙ w.same);
+          fits = omega (arith, putting_fits, size);
+          same = rw (is, behind) (written_turn e l l h x t s refl at out (omega (arith, w.fits)) ∙ w.same);
         }
 
 -- the byte looked for is byte i of the `left` bytes whose spans begin at place `at`

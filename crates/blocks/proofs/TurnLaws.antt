@@ -6,20 +6,17 @@
 --     framed_head, payload_head        the length byte comes first in a frame and in its payload
 use mathlib.Core.Bool.{cond}
 use mathlib.Core.List.{List, [], ◌∷◌, ◌++◌}
-use mathlib.Core.Path.{◌≡◌, refl, ap, sym, ◌∙◌}
+use mathlib.Core.Path.{◌≡◌, refl, sym, ◌∙◌}
 use Prim.Native.Nat.{ℕ, zero, suc, ◌+◌, ◌-◌, ◌≤◌, ◌<◌, min}
 use native.Mathlib.Nat.{not-suc-le-zero, min-zero, add_assoc}
 use native.Mathlib.Omega.{arith}
 use lib.ListN.{length, take, drop, length-drop}
-use lib.Seq.{drop-drop, length-take-le, paste}
+use lib.Seq.{take_at, drop_at, drop-drop, length-take-le, paste}
 use Rattle.std.specs.Prelude.{Some}
 use Rattle.blocks.specs.Spans.{sealed, framed, payload, block_ok, first_wrong, size_of, cut, spans}
 use Rattle.blocks.proofs.CutLaws.{spans_turn}
 use Rattle.blocks.proofs.SealLaws.{length_sealed}
 use Rattle.blocks.proofs.WalkLaws.{filled, filled_front, filled_turn, paste_filled}
-
-length_sealed-take : (k : ℕ) (s : List ℕ) → k ≤ length s → length (sealed (take k s)) ≡ k + 2
-length_sealed-take k s h = length_sealed (take k s) ∙ ap (λ (n : ℕ). n + 2) (length-take-le k s h)
 
 module _ {most later left k : ℕ} (e : k ≡ min most left) (m : 0 < most) (l : 0 < later) (h : 0 < left) where
   spans-cons : spans most later left ≡ k ∷ spans later later (left - k)
@@ -62,16 +59,15 @@ module _ {most later left k : ℕ} (e : k ≡ min most left) (m : 0 < most) (l :
 
   -- writing it there, with its check
   pub written_turn :
-      (at done : ℕ) (c d : List ℕ) → done + k ≤ length c → at + k + 2 ≤ length d
+      {p : List ℕ} (x t : List ℕ) → p ≡ x ++ t → length x ≡ k → (at : ℕ) (d : List ℕ) → at ≤ length d
       → let rest = spans later later (left - k) in
-      filled (take at d ++ (sealed (take k (drop done c)) ++ drop (at + k + 2) d)) (at + (k + 2))
-      (framed rest (drop (done + k) c)) (size_of rest)
-      ≡ filled d at (framed (spans most later left) (drop done c)) (size_of (spans most later left))
+      filled (take at d ++ (sealed x ++ drop (at + k + 2) d)) (at + (k + 2)) (framed rest t) (size_of rest)
+      ≡ filled d at (framed (spans most later left) p) (size_of (spans most later left))
   unfolding filled
-  written_turn at done c d there fits =
-      let size = length_sealed-take k (drop done c) (simp length-drop (omega arith)) in
-      rw (framed_turn (drop done c), size_of_turn, drop-drop k done c, add_assoc at k 2)
-      (filled_turn d at (sealed (take k (drop done c))) (omega arith) size _ _)
+  written_turn x t parts size at d inside =
+      let long : length (sealed x) ≡ k + 2 = rw size at (length_sealed x) in
+      rw (parts, framed_turn (x ++ t), take_at x t k size, drop_at x t k size, size_of_turn, add_assoc at k 2)
+      (filled_turn d at (sealed x) inside long _ _)
 
 module _ (first later n : ℕ) {k : ℕ} (e : k ≡ min (first - 1) n) (m : 1 < first) (l : 0 < later) where
   spans_first : spans first later (n + 1) ≡ suc k ∷ spans later later (n - k)

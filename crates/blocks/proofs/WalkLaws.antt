@@ -68,7 +68,7 @@ module _ (d : List ℕ) (at : ℕ) (x : List ℕ) {k : ℕ} (inside : at ≤ len
   filled_turn xs n = rw (take_done, drop_filled n, add_assoc at k n) (simp append_assoc)
 
   -- a span that was put into its place, then sealed there
-  sealed_filled :
+  pub sealed_filled :
       let m = filled d at x k in
       take at m ++ (sealed (take k (drop at m)) ++ drop (at + k + 2) m)
       ≡ take at d ++ (sealed x ++ drop (at + k + 2) d)
@@ -84,17 +84,10 @@ unfolding sealed
 sealed_at d at k fits =
     rw add-one (sets-eq (_ ∷ _ ∷ []) d (at + k) (omega arith) ∙ simp (take-add, append_assoc))
 
--- copying puts a span into its place, where it is sealed
+-- copying puts a span into its place
 pub paste_filled : (d s : List ℕ) (at k : ℕ) → paste d at s k ≡ filled d at (take k s) k
 unfolding filled
 paste_filled d s at k = append_assoc (take at d) (take k s) (drop (at + k) d)
-
-pub sealed_paste :
-    (d s : List ℕ) (at k : ℕ) → at ≤ length d → k ≤ length s
-    → let m = paste d at s k in
-    take at m ++ (sealed (take k (drop at m)) ++ drop (at + k + 2) m)
-    ≡ take at d ++ (sealed (take k s) ++ drop (at + k + 2) d)
-sealed_paste d s at k inside there = rw paste_filled (sealed_filled d at (take k s) inside (length-take-le k s there))
 
 -- the first span: its first byte is stored, the others are copied behind it, then it is sealed
 paste_first :

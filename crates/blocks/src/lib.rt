@@ -63,14 +63,15 @@ fn put_first(l: u8, c: &[u8], k: usize, out: &mut [u8])
     seal_at(out, 0, k + 1);
 }
 
-// A later span: k bytes of c from place `from`, then their check, written from place `at`.
-fn put_span(c: &[u8], from: usize, k: usize, out: &mut [u8], at: usize)
-    requires { (from + k ≤ length c.now) × (at + k + 2 ≤ length out.old) }
+// A later span: the bytes of `piece`, then their check, written from place `at`.
+fn put_span(piece: &[u8], out: &mut [u8], at: usize)
+    requires { at + length piece.now + 2 ≤ length out.old }
     ensures { out.new
         ≡ take at out.old
-        ++ (sealed (take k (drop from c.now)) ++ drop (at + k + 2) out.old) }
+        ++ (sealed piece.now ++ drop (at + length piece.now + 2) out.old) }
 {
-    out[at..at + k].copy_from_slice(&c[from..from + k]);
+    let k = piece.len();
+    out[at..at + k].copy_from_slice(piece);
     seal_at(out, at, k);
 }
 
@@ -95,7 +96,7 @@ struct Spot {
     offset: usize,
 }
 
-// Each loop takes a whole span in a turn, so none of them counts by one.
+// Each `while` takes a whole span in a turn, so none of them counts by one.
 impl Cut {
     // The first wrong block among those of the t bytes that s begins with, counted from 1; None if all are right.
     pub fn first_wrong(self, s: &[u8], t: usize) -> Option<usize>
@@ -131,6 +132,8 @@ impl Cut {
         let mut most = self.first - 1;
         let mut done: usize = 0;
         let mut left = n;
+
+        // No `for` over `out.chunks_mut(..)`: behind such a loop nothing but the length of out is known.
         while 0 < left {
             let k = most.min(left);
             out[done..done + k].copy_from_slice(&s[at..at + k]);
@@ -148,14 +151,12 @@ impl Cut {
             ≡ framed (spans self.first self.later (length c.now + 1)) (l ∷ c.now)
             ++ drop (size_of (spans self.first self.later (length c.now + 1))) out.old }
     {
-        let mut done = (self.first - 1).min(c.len());
-        put_first(l, c, done, out);
-        let mut at = done + 3;
-        while done < c.len() {
-            let k = self.later.min(c.len() - done);
-            put_span(c, done, k, out, at);
-            at += k + 2;
-            done += k;
+        let first = (self.first - 1).min(c.len());
+        put_first(l, c, first, out);
+        let mut at = first + 3;
+        for piece in c[first..].chunks(self.later) {
+            put_span(piece, out, at);
+            at += piece.len() + 2;
         }
     }
 
