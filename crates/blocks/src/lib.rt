@@ -77,6 +77,7 @@ fn put_span(piece: &[u8], out: &mut [u8], at: usize)
 
 // Place `byte` becomes v, and the check at place `check` follows from the one that stood there: the bytes between the
 // changed one and the end of its span are counted, not read.
+#[tactic(auto, unfolding(crate::specs::Places::updated_at, crate::specs::Places::mended))]
 fn mend(s: &mut [u8], byte: usize, check: usize, distance: usize, v: u8)
     requires { (byte + 1 + distance ≡ check) × ((check + 2 ≤ length s.old) × (distance ≤ 125)) }
     ensures { s.new ≡ mended s.old byte check v }

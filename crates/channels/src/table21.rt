@@ -2,7 +2,7 @@
 
 // First centre, spacing, tolerance and number of channels of each index from 1 on; at 0, where the table has no row,
 // zeros.
-pub const TABLE: [(f64, f64, f64, usize); 14] = [
+pub static TABLE: [(f64, f64, f64, usize); 14] = [
     (0.0, 0.0, 0.0, 0),
     (169406.25, 12.5, 2.0, 6),
     (169406.25, 12.5, 1.5, 6),

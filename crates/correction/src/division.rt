@@ -69,7 +69,7 @@ impl Rows {
     // Row t, as the remainder that it is.
     fn row(&self, t: usize) -> Remainder
         requires { t < 64 }
-        ensures { result ≡ row_at self.now.rows t }
+        ensures { result ≡ row_at self.now.rows.now t }
     {
         let [a, b, c, d] = self.rows[t];
         Remainder { a, b, c, d }

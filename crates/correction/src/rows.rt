@@ -5,18 +5,18 @@ ghost use Rattle.correction.specs.Inner.{RowsOk};
 
 #[derive(Drop)]
 pub(crate) struct Rows {
-    pub(crate) rows: [[u64; 4]; 64],
-    ghost right: { RowsOk rows },
+    pub(crate) rows: &'static [[u64; 4]; 64],
+    ghost right: { RowsOk rows.now },
 }
 
 impl Rows {
     // The table, for a caller to hold: a constant that is read in place is copied at each use.
     pub(crate) fn new() -> Self {
-        Rows { rows: ROWS }
+        Rows { rows: &ROWS }
     }
 }
 
-const ROWS: [[u64; 4]; 64] = [
+static ROWS: [[u64; 4]; 64] = [
     [
         0x0000000000000000,
         0x0000000000000000,
