@@ -11,7 +11,8 @@ use std::io;
 use std::io::Read;
 
 // Reads until the buffer is full or the input ends, and answers how many bytes it put at the buffer's start. What an
-// error leaves behind is not promised.
+// error leaves behind is not promised: so it is no public function that the program `words`, which has the same, could
+// share (every public contract settles all, docs/DECISIONS.md, D3).
 fn read_full<R: Read>(input: &mut R, buffer: &mut [u8]) -> io::Result<usize>
     ensures bound { ReadsAtMost result buffer.new }
     ensures bytes { IfOk result (λ n. Consumes (R.remaining input.old) (R.remaining input.new) (take n buffer.new)) }

@@ -10,7 +10,7 @@ pub(crate) struct Rows {
 }
 
 impl Rows {
-    // The table, for a caller to hold: a constant that is read in place is copied at each use.
+    // The table, which is read-only memory: nothing is copied.
     pub(crate) fn new() -> Self {
         Rows { rows: &ROWS }
     }

@@ -16,7 +16,7 @@ pub enum HeaderKind {
     AddressedSecured = 0x8F,
 }
 
-// PayloadCRC: two bytes as they are sent, not judged.
+// PayloadCRC: two bytes as they are sent, not judged. No array, as for `Address`: the theorems speak of every value.
 #[derive(Clone, Copy, Debug, PartialEq, Eq)]
 pub struct PayloadCheck(pub u8, pub u8);
 

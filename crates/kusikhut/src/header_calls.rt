@@ -49,6 +49,7 @@ pub fn kusikhut_header_read(s: &[u8], v: &mut [u64; 14]) -> u8
     tell(header::read(s), v)
 }
 
+// The parameters are what a caller in C hands over, one by one.
 fn write(
     kind: HeaderKind,
     cc: u8,

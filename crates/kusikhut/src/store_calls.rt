@@ -66,9 +66,9 @@ impl Row<4> for Meter {
 
     fn row(self) -> [u64; 4] {
         [
-            modes::mode_number(self.mode) as u64,
-            modes::format_number(self.format) as u64,
-            self.number as u64,
+            u64::from(modes::mode_number(self.mode)),
+            u64::from(modes::format_number(self.format)),
+            u64::from(self.number),
             u64::from(self.unsure),
         ]
     }

@@ -43,6 +43,9 @@ pub(crate) fn tell<T: Row<W>, const W: usize>(answer: Result<T, Refusal>, v: &mu
     tell_at(answer, 0, v)
 }
 
+// Numbers of four types have an impl each: no `From` leads from `usize` to `u64`, and an impl over `Into<u64>` would
+// take in `bool`, whose row is another.
+
 // Bytes written; in how many bytes a proposal differs.
 impl Row<1> for usize {
     ghost shows = { λ n. n ∷ [] };

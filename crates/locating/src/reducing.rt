@@ -24,7 +24,7 @@ pub(crate) struct Reached {
     pub(crate) sum: u8,
 }
 
-// Adds f times p to v.
+// Adds f times p to v. (By an index: a zip of p with `v.iter_mut()` asks for an invariant of the iterator; tried.)
 fn add_times(tables: &Tables, v: &mut [u8; 17], p: &[u8; 17], f: u8)
     ensures { v.new ≡ xors v.old (scaled f p.now) }
 {

@@ -39,6 +39,7 @@ pub(crate) fn remainder(w: &[u8]) -> [u8; CHECKS]
 {
     let end = w.len() - CHECKS;
     let mut rest = checks(&w[..end]);
+    // an index, since after a zip with `rest.iter_mut()` nothing is known of the bytes (tried)
     for i in 0..CHECKS {
         rest[i] ^= w[end + i];
     }

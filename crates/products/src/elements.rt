@@ -1,4 +1,4 @@
-// Products and quotients of elements. The tables are lent: a constant that is read in place is copied at each use.
+// Products and quotients of elements.
 ghost use Rattle.std.specs.Prelude.{◌≡◌, ◌<◌};
 ghost use Rattle.field.specs.Field.{mul, alpha_to};
 

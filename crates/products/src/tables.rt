@@ -12,8 +12,7 @@ pub struct Tables {
 }
 
 impl Tables {
-    // Both, for a caller to lend: a constant that is read in place is copied at each use, and a static holds no struct
-    // with a ghost field.
+    // Both, for a caller to lend: a static holds no struct with a ghost field (tried).
     pub fn new() -> Tables
         ensures { TablesOk result.powers result.logs }
     {

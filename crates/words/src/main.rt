@@ -46,7 +46,8 @@ fn asked(letter: u8) -> Option<Request> {
 }
 
 // Reads until the buffer is full or the input ends, and answers how many bytes it put at the buffer's start. What an
-// error leaves behind is not promised.
+// error leaves behind is not promised: so it is no public function that the program `bands`, which has the same, could
+// share (every public contract settles all, docs/DECISIONS.md, D3).
 fn read_full<R: Read>(input: &mut R, buffer: &mut [u8]) -> io::Result<usize>
     ensures bound { ReadsAtMost result buffer.new }
     ensures bytes { IfOk result (λ n. Consumes (R.remaining input.old) (R.remaining input.new) (take n buffer.new)) }
