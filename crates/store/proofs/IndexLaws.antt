@@ -136,8 +136,8 @@ indexed_none s first =
 
 module _
     (slots links s : List ℕ) (first k : ℕ)
-    (slots_size : length slots ≡ 509)
-    (links_size : length links ≡ 64)
+    (slots_size : 509 ≤ length slots)
+    (links_size : 64 ≤ length links)
     (few : k < 64)
     (is : Indexed slots links s first k)
   where

@@ -32,6 +32,6 @@ invariant_of-self c =
           (meters_next m.meters (omega arith) (omega arith) (search rules)
           (rw (← is) (found_none c.find.result c.find.ensures (sym c.is_some.ensures ∙ c.if-is_some.false))));
       indexed = rw (c.slot_of-slot.ensures, is, add-one m.count)
-          (indexed_next m.slots m.links m.bytes.now m.first m.count (search rules) (search rules) (omega arith)
+          (indexed_next m.slots m.links m.bytes.now m.first m.count (omega arith) (omega arith) (omega arith)
           m.indexed);
     }
