@@ -6,7 +6,7 @@
 #include "store_twin.h"
 #include <string.h>
 
-enum { ROOM = KUSIKHUT_STORE_SIZE, MOST = 64, SLOTS = 509 /* as in crates/store/src/places.rt */ };
+enum { ROOM = KUSIKHUT_STORE_SIZE, MOST = 64, SLOTS = 509 /* as in crates/store/src/index.rt */ };
 
 /* Behind the store stands what could be a meter more: it must mean nothing. */
 typedef struct {

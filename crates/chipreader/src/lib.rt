@@ -87,9 +87,9 @@ impl<'a> ChipReader<'a> {
     }
 }
 
-// The place after the word at a chip, for callers that hold a slice and no reader.
+// The place after the word at a chip, for callers that hold a slice and no reader: what a reader of its own answers.
 pub fn first(code: Code, chips: &[u8], at: usize) -> Place
     ensures { result ≡ step_of (code_of code) chips.now (start_of chips.now at) }
 {
-    Place::start(chips, at).step(code, chips)
+    ChipReader::new(chips, at).next(code).place
 }

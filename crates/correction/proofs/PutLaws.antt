@@ -13,7 +13,7 @@ use Rattle.codewords.specs.CheckBytes.{checks_of}
 use Rattle.codewords.specs.Corrections.{header_of, corrected}
 
 -- a part stored behind what was stored before
-put_behind : (l r v : List ℕ) (a k : ℕ) → length l ≡ a → put_mid a k (l ++ r) v ≡ (l ++ v) ++ drop k r
+pub put_behind : (l r v : List ℕ) (a k : ℕ) → length l ≡ a → put_mid a k (l ++ r) v ≡ (l ++ v) ++ drop k r
 put_behind l r v a k e = rw (take_at l r a e, drop_at l r a e) (sym (append_assoc l v (drop k r)))
 
 module _ (s d : List ℕ) (z : ℕ) (there : z ≤ length s) where

@@ -18,7 +18,7 @@ fn put_corrected(s: &[u8], size: usize, out: &mut [u8])
         ≡ corrected (take size s.now) ++ drop (size + 34) out.old }
 {
     let checks_from = size + HEADER;
-    out[..size].copy_from_slice(&s[..size]);
+    blocks::copy(&s[..size], &mut out[..size]);
     out[size..checks_from].copy_from_slice(&REED_SOLOMON.to_le_bytes());
     out[checks_from..checks_from + CHECKS].copy_from_slice(&checks(&s[..size]));
 }

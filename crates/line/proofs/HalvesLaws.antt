@@ -9,6 +9,7 @@
 --     half_of_is, half_of_none   what a number listed says of its word
 --     listed_some, listed_none   and the other way round
 --     half_at_first, half_at_second    the two words of the byte, cut out of the 32 chips from its first byte on
+--     shifted_first, shifted_second    they stand at the same places, where the code shifts up
 --     byte_read_first, byte_read_second    the byte's answer where the first or the second word is no code word
 --     byte_read_both            and where both are
 use mathlib.Core.Bool.{Bool, true, false}
@@ -21,9 +22,10 @@ use borrow.Author.Tests.{eqb-true, eqb-false}
 use lib.Dec.{eqb}
 use lib.ListN.{length, get_or, set, length-set}
 use lib.Seq.{get_or-set_same, get_or-set_other}
-use lib.Pow.{shr-shr}
+use lib.Pow.{shl-shr, shr-shr}
+use Rattle.std.proofs.Math.Pow.{shl_exact}
 use Rattle.std.specs.Prelude.{Option, Some, None, unwrap_or, Ok, Err}
-use Rattle.chips.proofs.WindowLaws.{word_at_window}
+use Rattle.chips.proofs.WindowLaws.{word_at_lt, word_at_window}
 use Rattle.chips.specs.Chips.{word_at}
 use Rattle.ground.proofs.TableLaws.{get_or_values}
 use Rattle.line.proofs.CodeLaws.{lawful, word_value_is}
@@ -114,6 +116,30 @@ half_at_second s at =
     let place : 8 * (at / 8) + (at % 8 + 6) ≡ at + 1 * 6 = omega arith in
     ap (λ (n : ℕ). word_at s (8 * (at / 8)) 32 / 2 ^ n % 2 ^ 6) rest
     ∙ (word_at_window s (at / 8) 32 (at % 8 + 6) 6 (omega arith) ∙ ap (λ (n : ℕ). word_at s n 6) place)
+
+-- 32 chips shifted up by less than a byte lose none, and what is cut out behind that is what is cut out of them
+shifted_up : (x k n : ℕ) → x < 2 ^ 32 → k ≤ 7 → k ≤ n → x * 2 ^ k % 2 ^ 64 / 2 ^ n ≡ x / 2 ^ (n - k)
+shifted_up x k n h few e =
+    ap (λ (y : ℕ). y / 2 ^ n) (shl_exact 32 k 64 h (omega arith))
+    ∙ (ap (λ (m : ℕ). x * 2 ^ k / 2 ^ m) (parts e) ∙ sym (shr-shr (x * 2 ^ k) k (n - k))
+    ∙ ap (λ (y : ℕ). y / 2 ^ (n - k)) (shl-shr x k))
+  where
+    parts : k ≤ n → n ≡ k + (n - k)
+    parts e = omega arith
+
+module _ (s : List ℕ) (at : ℕ) {x : ℕ} (half : x ≡ word_at s (8 * (at / 8)) 32) where
+  few_chips : x < 2 ^ 32
+  few_chips = rw half (word_at_lt s (8 * (at / 8)) 32)
+
+  pub shifted_first : x * 2 ^ (at % 8) % 2 ^ 64 / 2 ^ 26 % 64 ≡ x / 2 ^ (20 - at % 8) / 64 % 64
+  shifted_first =
+      let rest : 26 - at % 8 ≡ 20 - at % 8 + 6 = omega arith in
+      ap (λ (y : ℕ). y % 64)
+      (shifted_up x (at % 8) 26 few_chips (omega arith) (omega arith) ∙ ap (λ (n : ℕ). x / 2 ^ n) rest
+      ∙ sym (shr-shr x (20 - at % 8) 6))
+
+  pub shifted_second : x * 2 ^ (at % 8) % 2 ^ 64 / 2 ^ 20 % 64 ≡ x / 2 ^ (20 - at % 8) % 64
+  shifted_second = ap (λ (y : ℕ). y % 64) (shifted_up x (at % 8) 20 few_chips (omega arith) (omega arith))
 
 -- x is the 32 chips from the byte of chip `at` on, and `high` and `low` are what is listed for the byte's two words
 module _ (s : List ℕ) (at : ℕ) {x : ℕ} (half : x ≡ word_at s (8 * (at / 8)) 32) where

@@ -31,14 +31,15 @@ fn words_at(code: Code, s: &[u8], at: usize) -> Result<u8, usize>
 }
 
 // The same for three-of-six, quicker: both words are cut out of half a window, which is one load, and looked up (D16).
+// The window is shifted up to the place: shifted down by what is left of it, each byte waited for the one before (D16).
 fn halves_at(s: &[u8], at: usize) -> Result<u8, usize>
     ensures { result ≡ byte_read (code_of ThreeOfSix) s.now at }
 {
-    let all = chips::half(s, at / 8) >> (20 - at % 8);
-    let Some(high) = codes::half_of(all / 64 % 64) else {
+    let all = chips::half(s, at / 8) << (at % 8);
+    let Some(high) = codes::half_of((all >> 26) % 64) else {
         return Err(0);
     };
-    let Some(low) = codes::half_of(all % 64) else {
+    let Some(low) = codes::half_of((all >> 20) % 64) else {
         return Err(1);
     };
     Ok(high * 16 + low)

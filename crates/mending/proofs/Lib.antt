@@ -1,3 +1,4 @@
 pub mod LocateLaws
 pub mod WordLaws
 pub mod MendLaws
+pub mod PutLaws

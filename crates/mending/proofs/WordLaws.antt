@@ -1,5 +1,5 @@
 -- Words compared, and the test of a code word.
---     count_apart, apart-le    how many bytes differ, as the code counts them: at most as many as there are
+--     Counting          n bytes differ before place i: the invariant of the count, with its start, turn and end
 --     code_tested       fresh check bytes differ nowhere from those that stand there exactly where the word is a code
 --                       word
 --     code_compared     and so they do where the two are compared at once
@@ -8,28 +8,30 @@
 --     words_differ      two words compared in two parts
 -- Assumes nothing.
 use mathlib.Core.Bool.{Bool, true, false, cond}
-use mathlib.Core.List.{List, [], ◌∷◌, ◌++◌, append-nil}
+use mathlib.Core.List.{List, ◌++◌, append-nil}
 use mathlib.Core.Path.{◌≡◌, refl, sym, ap, ap₂, ◌∙◌}
 use Prim.Native.Nat.{ℕ, ◌+◌, ◌-◌, ◌≤◌, ◌<◌}
+use native.Mathlib.Nat.{zero-add, add-zero}
+use native.Mathlib.Numerals.{add-one}
 use native.Mathlib.Omega.{arith}
 use borrow.Author.Tests.{eq-eqb}
 use lib.Dec.{eqb}
 use Rattle.std.proofs.Common.{Result, get_or-drop}
-use Rattle.std.specs.Prelude.{◌==◌, not, count_by, zip}
+use Rattle.std.specs.Int.{from_bool}
+use Rattle.std.specs.Prelude.{not}
 use Rattle.std.specs.Cmp.Lexicographic.{pointwise}
 use Rattle.std.proofs.lemmas.Bool.{eqb-true}
 use Rattle.std.proofs.lemmas.Bool.Decides.{Decides-eqb, same_from_decides}
-use Rattle.std.proofs.lemmas.List.Sums.{sum_by-cons}
 use Rattle.std.proofs.lemmas.Slice.Eq.{slice_eq-Decides}
 use lib.Bits.{bit_xor, xor_comm}
 use lib.ListN.{length, get_or, take, drop, set, length-drop, take-append-drop, drop_of_length-le, replicate}
-use lib.Seq.{length-take-le, take_all, take-add}
+use lib.Seq.{drop-cons, length-take-le, take_all, take-add}
 use Rattle.answers.specs.Outcome.{Outcome, leaving}
 use Rattle.answers.specs.declared.Refusal.{Refusal}
 use Rattle.ground.specs.Apart.{apart}
 use Rattle.ground.specs.Bytes.{Bytes}
 use Rattle.ground.specs.Sums.{xors}
-use Rattle.ground.proofs.ApartLaws.{first_most, apart_self, apart-zero, apart-append}
+use Rattle.ground.proofs.ApartLaws.{apart_self, apart-zero, apart-append}
 use Rattle.ground.proofs.InPlaceLaws.{elements, InPlace, in_place_next, in_place_end}
 use Rattle.ground.proofs.SumLaws.{length-xors, xors_self, xors_equal, get_or-xors}
 use Rattle.ground.proofs.ByteLaws.{bytes_take, bytes_drop}
@@ -43,23 +45,49 @@ use Rattle.proposals.proofs.CodeLaws.{is_code_block_code, code-is_code_block, ch
 
 -- ---- the count
 
-one_apart : (t : Bool) → ◌≡◌ {A = ℕ} (cond (not t) 1 0) (cond t 0 1)
+pub record Counting (u v : List ℕ) (n i : ℕ) : Type 0 where
+  pub within : i ≤ length u
+  pub few : n ≤ i
+  pub sum : n + apart (drop i u) (drop i v) ≡ apart u v
+
+-- a byte that differs counts 1
+one_apart : (t : Bool) → from_bool (not t) ≡ cond t 0 1
 one_apart true = refl
 one_apart false = refl
 
-pub count_apart : (u v : List ℕ) → count_by (λ (p : ℕ × ℕ). not (p.0 == p.1)) (zip u v) ≡ apart u v
-unfolding apart
-count_apart [] v = refl
-count_apart (x ∷ u) [] = refl
-count_apart (x ∷ u) (y ∷ v) =
-    sum_by-cons {X = ℕ × ℕ} (λ p. cond (not (p.0 == p.1)) 1 0) (x, y) (zip u v)
-    ∙ ap₂ ◌+◌ (one_apart (eqb x y)) (count_apart u v)
+one_most : (t : Bool) → from_bool t ≤ 1
+one_most true = omega arith
+one_most false = omega arith
 
-pub apart-le : (u v : List ℕ) → apart u v ≤ length u
-unfolding apart
-apart-le [] v = omega arith
-apart-le (x ∷ u) [] = omega arith
-apart-le (x ∷ u) (y ∷ v) = omega (arith, apart-le u v, first_most x y u v)
+module _ (u v : List ℕ) where
+  pub counting_start : Counting u v 0 0
+  counting_start = record { within = omega arith; few = omega arith; sum = zero-add (apart u v) }
+
+  apart-drop : (i : ℕ) → i < length u → i < length v
+      → apart (drop i u) (drop i v)
+      ≡ cond (eqb (get_or u i 0) (get_or v i 0)) 0 1 + apart (drop (i + 1) u) (drop (i + 1) v)
+  unfolding apart
+  apart-drop i hu hv = rw (add-one, drop-cons u i 0, drop-cons v i 0)
+
+  pub counting_next : {n i r : ℕ} → length u ≡ length v → Counting u v n i → i < length u
+      → r ≡ from_bool (not (eqb (get_or u i 0) (get_or v i 0))) → Counting u v (n + r) (i + 1)
+  counting_next {n} {i} {r} e c h is =
+      let same = eqb (get_or u i 0) (get_or v i 0) in
+      record {
+        within = omega arith;
+        few = omega (arith, c.few, is, one_most (not same));
+        sum = omega (arith, c.sum, apart-drop i h (omega arith), is ∙ one_apart same);
+      }
+
+  pub counting_few : {n i r : ℕ} → Counting u v n i → r ≡ from_bool (not (eqb (get_or u i 0) (get_or v i 0)))
+      → n + r ≤ i + 1
+  counting_few {n} {i} c is = omega (arith, c.few, is, one_most (not (eqb (get_or u i 0) (get_or v i 0))))
+
+  pub counting_end : {n i : ℕ} → Counting u v n i → length u ≤ i → n ≡ apart u v
+  unfolding apart
+  counting_end {n} {i} c h =
+      let none : n + apart (drop i u) (drop i v) ≡ n = rw (drop_of_length-le u h) (add-zero n) in
+      sym none ∙ c.sum
 
 -- ---- the test of a code word
 

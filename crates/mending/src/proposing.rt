@@ -17,7 +17,7 @@ fn put_received(s: &[u8], size: usize, out: &mut [u8])
     ensures { out.new ≡ received size s.now ++ drop (size + 32) out.old }
 {
     let checks = size + HEADER;
-    out[..size].copy_from_slice(&s[..size]);
+    blocks::copy(&s[..size], &mut out[..size]);
     out[size..size + CHECKS].copy_from_slice(&s[checks..checks + CHECKS]);
 }
 

@@ -8,6 +8,7 @@ ghost use Rattle.proposals.specs.Near.{nearest_of};
 ghost use Rattle.mending.specs.Inner.{Locates, Tried};
 
 use crate::words::{code_word, remainder};
+use correction::CHECKS;
 use products::Tables;
 
 // One wrong byte: its place in the word, and the sum of the wrong and the right byte.
@@ -68,12 +69,16 @@ fn try_at(w: &mut [u8], fault: Fault)
     }
 }
 
-// Mends one wrong byte, but not the length byte; any other word stays as it is.
+// Mends one wrong byte, but not the length byte; any other word stays as it is. A code word is told early.
 pub(crate) fn mend_one(w: &mut [u8])
     requires { (32 ≤ length w.old) × (length w.old ≤ 255) }
     ensures { w.new ≡ nearest_of 1 w.old }
 {
-    if let Some(fault) = located(&remainder(w), w.len()) {
+    let rest = remainder(w);
+    if rest == [0; CHECKS] {
+        return;
+    }
+    if let Some(fault) = located(&rest, w.len()) {
         if fault.place != LENGTH_BYTE {
             try_at(w, fault);
         }

@@ -4,6 +4,7 @@
 --     last_with_above                none behind it is
 --     Walk, walk_starts, walk_ends, walk_less, walk_next    a search in a slot, from one meter to the one before it
 --     indexed_none                  a table of zeros is that of no meters
+--     indexed_from                  a table of no meters is that wherever they are to begin
 --     indexed_next                  one meter more, entered
 -- Assumes nothing.
 use mathlib.Core.Bool.{Bool, true, false, cond}
@@ -133,6 +134,11 @@ pub indexed_none : (s : List ℕ) (first : ℕ) → Indexed (replicate 509 0) (r
 unfolding last_with
 indexed_none s first =
     record { of_slot = λ h low. get_or-replicate 509 h 0 0 low; of_meter = λ j low. absurd (omega arith) }
+
+pub indexed_from :
+    {slots links s : List ℕ} {first : ℕ} (other : ℕ) → Indexed slots links s first 0 → Indexed slots links s other 0
+unfolding last_with
+indexed_from other is = record { of_slot = is.of_slot; of_meter = λ j low. absurd (omega arith) }
 
 module _
     (slots links s : List ℕ) (first k : ℕ)

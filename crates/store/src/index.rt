@@ -1,5 +1,5 @@
 // The meters of a memory or a file, each found by its address.
-ghost use Rattle.std.specs.Prelude.{◌≡◌, true, false, ◌&&◌, [], ℕ, ◌+◌, ◌*◌, ◌≤◌, ◌<◌, length, take, drop, MatchOption};
+ghost use Rattle.std.specs.Prelude.{◌≡◌, true, false, ◌&&◌, [], ℕ, ◌+◌, ◌*◌, ◌≤◌, ◌<◌, length, take, drop};
 ghost use Rattle.ground.specs.Bytes.{Bytes};
 ghost use Rattle.sessions.specs.StoreFile.{meter_in, meters_in, all_right, unlike};
 ghost use Rattle.store.specs.Inner.{place_of, slot_of, FoundAt, MetersFrom, Indexed};
@@ -15,10 +15,11 @@ const SLOTS: usize = 509;
 
 // The `count` meters of `bytes` from `first` on, none of them twice. A slot leads to the last meter in it and a meter's
 // link to the one before it in its slot; each is one more than a place, and 0 leads nowhere. No map of std: its memory
-// would come from an allocator, and the store's is fixed and lent (a rule of the project).
+// would come from an allocator, and the store's is fixed and lent (a rule of the project). A call makes one index and
+// lends it to what fills it: to hand it on by value would copy the table each time.
 #[derive(Drop)]
 pub(crate) struct Index<'a> {
-    bytes: &'a [u8],
+    pub(crate) bytes: &'a [u8],
     first: usize,
     pub(crate) count: usize,
     slots: [u8; SLOTS],
@@ -37,33 +38,35 @@ fn slot_of(address: u64) -> usize
 
 impl<'a> Index<'a> {
     // No meter yet.
-    fn none(bytes: &'a [u8], first: usize) -> Index<'a>
-        requires { (first ≤ 8) × (first ≤ length bytes.now) }
-        ensures { (result.bytes.now ≡ bytes.now) × ((result.first ≡ first) × (result.count ≡ 0)) }
+    pub(crate) fn none(bytes: &'a [u8]) -> Index<'a>
+        ensures { (result.bytes.now ≡ bytes.now) × (result.count ≡ 0) }
     {
         Index {
             bytes,
-            first,
+            first: 0,
             count: 0,
             slots: [0; SLOTS],
             links: [0; LIMIT],
         }
     }
 
-    // The `count` meters of `bytes` from `first` on, if each of them is one and none stands twice.
-    pub(crate) fn of(bytes: &'a [u8], first: usize, count: usize) -> Option<Index<'a>>
-        requires { (first ≤ 8) × ((count ≤ 64) × (first + 20 * count ≤ length bytes.now)) }
-        ensures { MatchOption result
-            ((all_right count (drop first bytes.now) && unlike [] (meters_in count (drop first bytes.now))) ≡ false)
-            (λ m. (m.bytes.now ≡ bytes.now) × ((m.first ≡ first) × (m.count ≡ count))) }
+    // Takes in the `count` meters from `first` on, if each of them is one and none stands twice; else only those before
+    // the first that is wrong.
+    pub(crate) fn fill(&mut self, first: usize, count: usize) -> bool
+        requires { (self.old.count ≡ 0) × ((first ≤ 8) × ((count ≤ 64)
+            × (first + 20 * count ≤ length self.old.bytes.now))) }
+        ensures same { self.new.bytes.now ≡ self.old.bytes.now }
+        ensures judged { result ≡ (all_right count (drop first self.old.bytes.now)
+            && unlike [] (meters_in count (drop first self.old.bytes.now))) }
+        ensures filled { result ≡ true → (self.new.first ≡ first) × (self.new.count ≡ count) }
     {
-        let mut index = Index::none(bytes, first);
+        self.first = first;
         for _ in 0..count {
-            if !index.take_next() {
-                return None;
+            if !self.take_next() {
+                return false;
             }
         }
-        Some(index)
+        true
     }
 
     // Takes in the meter behind the last one; not if its bytes are none, or it stands there twice. Only meters in the

@@ -14,23 +14,33 @@ pub(crate) const HEAD: usize = 8;
 // Bytes of memory that a store is kept in: as many as the largest has.
 pub(crate) const MEMORY: usize = HEAD + METER * LIMIT;
 
-// The meters behind the count at place k + 1, if it is one, at most 64, and right meters follow it.
-fn right_body(s: &[u8], k: usize) -> Option<Index<'_>>
-    requires { (k ≤ 6) × (k + 2 ≤ length s.now) }
-    ensures { BodyAt s.now k (right_body k s.now) result }
+// Fills the index with the meters behind the count at place k + 1, if it is one, at most 64, and right meters follow
+// it. Refusal: 17.
+fn right_body(index: &mut Index, k: usize) -> Result<(), Refusal>
+    requires { (index.old.count ≡ 0) × ((k ≤ 6) × (k + 2 ≤ length index.old.bytes.now)) }
+    ensures { BodyAt index.old.bytes.now k (right_body k index.old.bytes.now) result index.new }
 {
+    let s = index.bytes;
     let count = s[k + 1] as usize;
     if s[k] != 1 || count > LIMIT || s.len() < k + 2 + METER * count {
-        return None;
+        return Err(Refusal::BadStore);
     }
-    Index::of(s, k + 2, count)
+    if !index.fill(k + 2, count) {
+        return Err(Refusal::BadStore);
+    }
+    Ok(())
 }
 
-// The meters that the memory s holds. The refusals in their order: 17 if it has no byte, 18, 17.
-pub(crate) fn in_memory(s: &[u8]) -> Result<Index<'_>, Refusal>
-    ensures held { MatchResult result (λ m. Opened (memory_of s.now) s.now 8 m) (λ why. memory_of s.now ≡ Err why) }
-    ensures room { IfOk result (λ m. 1288 ≤ length s.now) }
+// Fills the index with the meters that its bytes, a memory, hold. The refusals in their order: 17 if it has no byte,
+// 18, 17.
+pub(crate) fn in_memory(index: &mut Index) -> Result<(), Refusal>
+    requires { index.old.count ≡ 0 }
+    ensures held { MatchResult result
+        (λ u. Opened (memory_of index.old.bytes.now) index.old.bytes.now 8 index.new)
+        (λ why. memory_of index.old.bytes.now ≡ Err why) }
+    ensures room { IfOk result (λ u. 1288 ≤ length index.old.bytes.now) }
 {
+    let s = index.bytes;
     if s.is_empty() {
         return Err(Refusal::BadStore);
     }
@@ -40,54 +50,59 @@ pub(crate) fn in_memory(s: &[u8]) -> Result<Index<'_>, Refusal>
     if s.len() < MEMORY || s[1] != 4 {
         return Err(Refusal::BadStore);
     }
-    right_body(s, 6).ok_or(Refusal::BadStore)
+    right_body(index, 6)
 }
 
-// The same, if besides the bytes end with them.
-fn whole_body(s: &[u8], k: usize) -> Option<Index<'_>>
-    requires { (k ≤ 6) × (k + 2 ≤ length s.now) }
-    ensures { BodyAt s.now k (right_body k s.now && whole k s.now) result }
+// The same as `right_body`, if besides the bytes end with them. Refusal: 17.
+fn whole_body(index: &mut Index, k: usize) -> Result<(), Refusal>
+    requires { (index.old.count ≡ 0) × ((k ≤ 6) × (k + 2 ≤ length index.old.bytes.now)) }
+    ensures { BodyAt index.old.bytes.now k (right_body k index.old.bytes.now && whole k index.old.bytes.now)
+        result index.new }
 {
-    let body = right_body(s, k)?;
-    if s.len() != k + 2 + METER * body.count {
-        return None;
-    }
-    Some(body)
-}
-
-// The meters that the file s holds. The refusals in their order: 17 if it is empty, 18, 17.
-pub(crate) fn in_file(s: &[u8]) -> Result<Index<'_>, Refusal>
-    ensures { MatchResult result (λ m. Opened (file_of s.now) s.now (first_of s.now) m)
-        (λ why. file_of s.now ≡ Err why) }
-{
-    if s.is_empty() {
+    right_body(index, k)?;
+    if index.bytes.len() != k + 2 + METER * index.count {
         return Err(Refusal::BadStore);
     }
-    match s[0] {
-        1 => in_version_one(s),
-        2 => in_version_two(s),
+    Ok(())
+}
+
+// Fills the index with the meters that its bytes, a file, hold. The refusals in their order: 17 if it is empty, 18, 17.
+pub(crate) fn in_file(index: &mut Index) -> Result<(), Refusal>
+    requires { index.old.count ≡ 0 }
+    ensures { MatchResult result
+        (λ u. Opened (file_of index.old.bytes.now) index.old.bytes.now (first_of index.old.bytes.now) index.new)
+        (λ why. file_of index.old.bytes.now ≡ Err why) }
+{
+    if index.bytes.is_empty() {
+        return Err(Refusal::BadStore);
+    }
+    match index.bytes[0] {
+        1 => in_version_one(index),
+        2 => in_version_two(index),
         _ => Err(Refusal::UnknownVersion),
     }
 }
 
 // A file of version 2: the allowance, then the count at place 7.
-fn in_version_two(s: &[u8]) -> Result<Index<'_>, Refusal>
-    requires { (0 < length s.now) × (get_or s.now 0 0 ≡ 2) }
-    ensures { MatchResult result (λ m. Opened (file_of s.now) s.now 8 m) (λ why. file_of s.now ≡ Err why) }
+fn in_version_two(index: &mut Index) -> Result<(), Refusal>
+    requires { (index.old.count ≡ 0) × ((0 < length index.old.bytes.now) × (get_or index.old.bytes.now 0 0 ≡ 2)) }
+    ensures { MatchResult result (λ u. Opened (file_of index.old.bytes.now) index.old.bytes.now 8 index.new)
+        (λ why. file_of index.old.bytes.now ≡ Err why) }
 {
-    if s.len() < 8 || s[1] != 4 {
+    if index.bytes.len() < 8 || index.bytes[1] != 4 {
         return Err(Refusal::BadStore);
     }
-    whole_body(s, 6).ok_or(Refusal::BadStore)
+    whole_body(index, 6)
 }
 
 // A file of version 1: the count at place 2.
-fn in_version_one(s: &[u8]) -> Result<Index<'_>, Refusal>
-    requires { (0 < length s.now) × (get_or s.now 0 0 ≡ 1) }
-    ensures { MatchResult result (λ m. Opened (file_of s.now) s.now 3 m) (λ why. file_of s.now ≡ Err why) }
+fn in_version_one(index: &mut Index) -> Result<(), Refusal>
+    requires { (index.old.count ≡ 0) × ((0 < length index.old.bytes.now) × (get_or index.old.bytes.now 0 0 ≡ 1)) }
+    ensures { MatchResult result (λ u. Opened (file_of index.old.bytes.now) index.old.bytes.now 3 index.new)
+        (λ why. file_of index.old.bytes.now ≡ Err why) }
 {
-    if s.len() < 3 {
+    if index.bytes.len() < 3 {
         return Err(Refusal::BadStore);
     }
-    whole_body(s, 1).ok_or(Refusal::BadStore)
+    whole_body(index, 1)
 }

@@ -6,7 +6,7 @@ ghost use Rattle.sessions.specs.StoreFile.{meter_bytes};
 ghost use Rattle.sessions.specs.StoreCalls.{emptying, adding, adding_by, hearing_in, issuing, setting_allowance, writing_store, looking_up, allowance_in};
 ghost use Rattle.store.specs.Inner.{known_at};
 
-use crate::index::LIMIT;
+use crate::index::{Index, LIMIT};
 use crate::judging::{HEAD, MEMORY};
 use crate::meters::METER;
 use crate::{judging, meters};
@@ -61,7 +61,8 @@ fn known(store: &[u8], count: usize, place: usize, address: u64) -> Meter
 pub fn add(store: &mut [u8], address: u64, mode: Mode, format: Format) -> Result<usize, Refusal>
     ensures { leaving result store.new ≡ adding address mode format store.old }
 {
-    let held = judging::in_memory(store)?;
+    let mut held = Index::none(store);
+    judging::in_memory(&mut held)?;
     let count = held.count;
     let place = held.find(address).unwrap_or(count);
     if place >= LIMIT {
@@ -85,7 +86,8 @@ pub fn add(store: &mut [u8], address: u64, mode: Mode, format: Format) -> Result
 pub fn hear(store: &mut [u8], address: u64, number: u32) -> Result<usize, Refusal>
     ensures { leaving result store.new ≡ hearing_in address number store.old }
 {
-    let held = judging::in_memory(store)?;
+    let mut held = Index::none(store);
+    judging::in_memory(&mut held)?;
     let count = held.count;
     let place = held.find(address).ok_or(Refusal::NotHeld)?;
     let own = held.at(place);
@@ -101,7 +103,8 @@ pub fn hear(store: &mut [u8], address: u64, number: u32) -> Result<usize, Refusa
 pub fn issue(store: &mut [u8], address: u64) -> Result<u32, Refusal>
     ensures { leaving result store.new ≡ issuing address store.old }
 {
-    let held = judging::in_memory(store)?;
+    let mut held = Index::none(store);
+    judging::in_memory(&mut held)?;
     let count = held.count;
     let place = held.find(address).ok_or(Refusal::NotHeld)?;
     let own = held.at(place);
@@ -117,7 +120,8 @@ pub fn issue(store: &mut [u8], address: u64) -> Result<u32, Refusal>
 pub fn look_up(store: &[u8], address: u64) -> Result<Meter, Refusal>
     ensures { result ≡ looking_up address store.now }
 {
-    let held = judging::in_memory(store)?;
+    let mut held = Index::none(store);
+    judging::in_memory(&mut held)?;
     let place = held.find(address).ok_or(Refusal::NotHeld)?;
     Ok(held.at(place))
 }
@@ -126,7 +130,7 @@ pub fn look_up(store: &[u8], address: u64) -> Result<Meter, Refusal>
 pub fn allowance(store: &[u8]) -> Result<u32, Refusal>
     ensures { result ≡ allowance_in store.now }
 {
-    judging::in_memory(store)?;
+    judging::in_memory(&mut Index::none(store))?;
     Ok(address::four_at(store, 2))
 }
 
@@ -134,7 +138,9 @@ pub fn allowance(store: &[u8]) -> Result<u32, Refusal>
 pub fn set_allowance(store: &mut [u8], allowance: u32) -> Result<usize, Refusal>
     ensures { leaving result store.new ≡ setting_allowance allowance store.old }
 {
-    let count = judging::in_memory(store)?.count;
+    let mut held = Index::none(store);
+    judging::in_memory(&mut held)?;
+    let count = held.count;
     address::put_number(store, 2, allowance);
     Ok(HEAD + METER * count)
 }
@@ -143,11 +149,13 @@ pub fn set_allowance(store: &mut [u8], allowance: u32) -> Result<usize, Refusal>
 pub fn write(store: &[u8], out: &mut [u8]) -> Result<usize, Refusal>
     ensures { leaving result out.new ≡ writing_store store.now out.old }
 {
-    let size = HEAD + METER * judging::in_memory(store)?.count;
+    let mut held = Index::none(store);
+    judging::in_memory(&mut held)?;
+    let size = HEAD + METER * held.count;
     if out.len() < size {
         return Err(Refusal::NoRoom);
     }
-    out[..size].copy_from_slice(&store[..size]);
+    blocks::copy(&store[..size], &mut out[..size]);
     Ok(size)
 }
 
@@ -157,7 +165,7 @@ pub fn add_by_number(store: &mut [u8], address: u64, mode: u8, format: u8) -> Re
     ensures { leaving result store.new ≡ adding_by address mode format store.old }
 {
     if mode > 5 || format > 1 {
-        judging::in_memory(store)?;
+        judging::in_memory(&mut Index::none(store))?;
         return Err(Refusal::BadStore);
     }
     add(

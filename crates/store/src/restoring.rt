@@ -15,8 +15,10 @@ use sessions::Meter;
 pub fn restore(store: &mut [u8], file: &[u8]) -> Result<usize, Refusal>
     ensures { leaving result store.new ≡ restoring file.now store.old }
 {
-    let held = judging::in_memory(store)?;
-    let theirs = judging::in_file(file)?;
+    let mut held = Index::none(store);
+    judging::in_memory(&mut held)?;
+    let mut theirs = Index::none(file);
+    judging::in_file(&mut theirs)?;
     let count = held.count;
     let (places, total) = places_in(&held, &theirs);
     if total > LIMIT {

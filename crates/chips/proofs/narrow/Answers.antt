@@ -13,6 +13,6 @@ returns c =
     let last = (a.at + a.w - 1) / 8 in
     let up : ℕ = (get_or a.s.now first 0 * 256 + get_or a.s.now last 0) * 2 ^ (a.at % 8) in
     let low : up % 65536 ≡ up % 2 ^ 64 % 65536 = omega arith in
-    rw (c.from.ensures, c.from_be_bytes-two.ensures, low)
+    rw (c.from-3.ensures, c.from.ensures, c.from-2.ensures, low)
     (word_at_narrow a.s.now a.at a.w (omega arith) (omega arith) (refl, omega (arith, c.type_inv.s first))
     (refl, omega (arith, c.type_inv.s last)))

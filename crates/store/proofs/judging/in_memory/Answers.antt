@@ -7,7 +7,6 @@ use Rattle.store.proofs.judging.in_memory.Goals as goal
 
 pub returns-clause-held : goal.returns-clause-held
 returns-clause-held c =
-    let s = c.args.s.now in
+    let s = c.args.index.now.bytes.now in
     let body = c.right_body in
-    rw c.ok_or.ensures.value
-    (opened_body s 6 (four_at s 2) (right_body 6 s) body.result body.ensures (search rules))
+    opened_body s 6 (four_at s 2) (right_body 6 s) body.result body.new.index body.ensures (search rules)

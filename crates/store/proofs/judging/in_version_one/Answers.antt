@@ -7,7 +7,6 @@ use Rattle.store.proofs.judging.in_version_one.Goals as goal
 
 pub returns : goal.returns
 returns c =
-    let s = c.args.s.now in
+    let s = c.args.index.now.bytes.now in
     let body = c.whole_body in
-    rw c.ok_or.ensures.value
-    (opened_body s 1 16384 (right_body 1 s && whole 1 s) body.result body.ensures (search rules))
+    opened_body s 1 16384 (right_body 1 s && whole 1 s) body.result body.new.index body.ensures (search rules)

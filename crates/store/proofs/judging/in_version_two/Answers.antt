@@ -8,7 +8,6 @@ use Rattle.store.proofs.judging.in_version_two.Goals as goal
 
 pub returns : goal.returns
 returns c =
-    let s = c.args.s.now in
+    let s = c.args.index.now.bytes.now in
     let body = c.whole_body in
-    rw c.ok_or.ensures.value
-    (opened_body s 6 (four_at s 2) (right_body 6 s && whole 6 s) body.result body.ensures (search rules))
+    opened_body s 6 (four_at s 2) (right_body 6 s && whole 6 s) body.result body.new.index body.ensures (search rules)

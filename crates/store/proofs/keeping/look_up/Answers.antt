@@ -5,11 +5,11 @@ use Rattle.store.proofs.keeping.look_up.Goals as goal
 
 pub returns-in_err-place : goal.returns-in_err-place
 returns-in_err-place c =
-    let none = look_none c.in_ok-held.ensures.held c.args.address c.find.result c.find.ensures
-    c.in_err-place.ensures.value in
+    let o = rw c.none-held.ensures.0 at c.in_ok-in_memory.ensures.held in
+    let none = look_none o c.args.address c.find.result c.find.ensures c.in_err-place.ensures.value in
     search rules
 
 pub returns : goal.returns
 returns c =
-    look_held c.in_ok-held.ensures.held c.args.address c.find.result c.find.ensures c.in_ok-place.ensures.value
-    c.at.ensures
+    let o = rw c.none-held.ensures.0 at c.in_ok-in_memory.ensures.held in
+    look_held o c.args.address c.find.result c.find.ensures c.in_ok-place.ensures.value c.at.ensures

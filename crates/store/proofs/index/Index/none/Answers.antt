@@ -10,6 +10,6 @@ invariant_of-result c =
     record {
       octets = λ j. omega (arith, c.type_inv.bytes j);
       early = omega arith;
-      meters = meters_none s c.args.first (omega arith);
-      indexed = indexed_none s c.args.first;
+      meters = meters_none s 0 (omega arith);
+      indexed = indexed_none s 0;
     }
