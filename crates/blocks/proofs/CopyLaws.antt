@@ -1,10 +1,11 @@
 -- What a slice holds once bytes were copied into a part of it: `paste` of lib.Seq, n bytes from the start of a list put
 -- at a place of another.
 --     copied        a part that was lent and came back as these bytes
+--     begun d s i   d with the first i bytes of s over its own
 --     begun_next    one more byte, read where it stands
 --     begun_more    bytes behind bytes that were copied
 --     begun_all     all bytes, in two loops
---     copied_all, copied_part    and over as many
+--     copied_all, copied_part    what was copied over as many bytes is what stands there
 -- Assumes nothing.
 use mathlib.Core.List.{List, ◌++◌, append_assoc, append-nil}
 use mathlib.Core.Path.{◌≡◌, refl, sym, ap, ◌∙◌}

@@ -18,8 +18,8 @@ pub struct Cut {
 }
 
 // The bytes of `from`, stored from the first byte of `to` on. Sixteen at a time are one load and one store.
-// `copy_from_slice` calls `memmove` where the compiler does not know the length, and the library needs no such function
-// from outside (D141). Each `while` turn takes sixteen bytes, so it does not count by one.
+// `copy_from_slice` between two lent slices of a length that the compiler does not know calls `memmove`, which the
+// library does not need from outside (D141). Each `while` turn takes sixteen bytes, so it does not count by one.
 pub fn copy(from: &[u8], to: &mut [u8])
     requires { length from.now ≤ length to.old }
     ensures { to.new ≡ sets to.old 0 from.now }

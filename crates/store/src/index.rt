@@ -15,8 +15,8 @@ const SLOTS: usize = 509;
 
 // The `count` meters of `bytes` from `first` on, none of them twice. A slot leads to the last meter in it and a meter's
 // link to the one before it in its slot; each is one more than a place, and 0 leads nowhere. No map of std: its memory
-// would come from an allocator, and the store's is fixed and lent (a rule of the project). A call makes one index and
-// lends it to what fills it: to hand it on by value would copy the table each time.
+// would come from an allocator, and the store's is fixed and lent (a rule of the project). A call makes its index where
+// it needs it and lends it to what fills it: to hand it on by value would copy its tables each time (D142).
 #[derive(Drop)]
 pub(crate) struct Index<'a> {
     pub(crate) bytes: &'a [u8],
