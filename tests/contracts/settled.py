@@ -19,7 +19,7 @@ from collections import namedtuple
 from pathlib import Path
 
 # public functions that may ask something of their caller (D23); none of them is an entry point or exported
-ASKING = {"chips::word", "chips::narrow", "blocks::copy", "blocks::Cut::first_wrong", "blocks::Cut::take_out",
+ASKING = {"chips::word", "chips::narrow", "chips::bytes", "blocks::copy", "blocks::Cut::first_wrong", "blocks::Cut::take_out",
           "blocks::Cut::put_all", "blocks::Cut::set_byte", "frame::FormatA::length_byte", "frame::FormatB::length_byte",
           "frame::FormatA::size", "frame::FormatB::size", "address::two_at", "address::name_at", "address::put_four", "address::put_name",
           "address::four_at", "address::key_at", "address::put_number", "address::put_key",

@@ -11,6 +11,7 @@
 --     word_at_window         the w chips that stand r places into m
 --     word_at_cut            the w chips at a place: the 64 from its byte on, shifted up to the place and down to w
 --     word_at_narrow         the same for at most nine chips, out of the bytes of the first and of the last of them
+--     word_at_next           the same for the eight chips of byte k from there on: both of their bytes are k further on
 use mathlib.Core.Bool.{Bool, true, false}
 use mathlib.Core.Path.{◌≡◌, refl, ap, sym, ◌∙◌}
 use mathlib.Core.List.{List, [], ◌∷◌}
@@ -185,3 +186,17 @@ module _ (s : List ℕ) (at w : ℕ) (some : 1 ≤ w) (few : w ≤ 9) {a b : ℕ
       ∙ shl-shr_cut 16 (a * 256 + b) (at % 8) w (omega arith)
       ∙ two_cut (ltb 8 (at % 8 + w)) refl
       ∙ ap (λ (n : ℕ). word_at s n w) place
+
+module _ (s : List ℕ) (at k : ℕ) {a b : ℕ} (high : (a ≡ get_or s (at / 8 + k) 0) × (a < 256))
+    (low : (b ≡ get_or s ((at + 7) / 8 + k) 0) × (b < 256)) where
+  pub word_at_next : (a * 256 + b) * 2 ^ (at % 8) % 65536 / 256 ≡ word_at s (at + 8 * k) 8
+  word_at_next =
+      let place : ℕ = at + 8 * k in
+      let first : a ≡ get_or s (place / 8) 0 = high.0 ∙ ap (λ (q : ℕ). get_or s q 0) (omega arith) in
+      let last : b ≡ get_or s ((place + 8 - 1) / 8) 0 = low.0 ∙ ap (λ (q : ℕ). get_or s q 0) (omega arith) in
+      let shift : place % 8 ≡ at % 8 = omega arith in
+      let up : ℕ = (a * 256 + b) * 2 ^ (place % 8) in
+      let cut : up % 65536 ≡ up % 2 ^ 64 % 65536 = omega arith in
+      let read : up % 65536 / 256 ≡ word_at s place 8
+      = rw cut (word_at_narrow s place 8 (omega arith) (omega arith) (first, high.1) (last, low.1)) in
+      rw shift at read

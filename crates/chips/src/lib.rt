@@ -3,6 +3,7 @@
 
 ghost use Rattle.std.specs.Prelude.{◌≡◌, ◌+◌, ◌*◌, ◌≤◌, ◌<◌, length};
 ghost use Rattle.chips.specs.Chips.{word_at, chip_count, room_limit, in_range};
+ghost use Rattle.chips.specs.Packing.{bytes_at};
 
 // A received chip buffer has at most so many bytes (house).
 pub const LIMIT: usize = 1024;
@@ -74,7 +75,21 @@ pub fn narrow(s: &[u8], at: usize, w: usize) -> usize
     requires { ((1 ≤ w) × (w ≤ 9)) × ((length s.now ≤ room_limit) × (at + w ≤ chip_count s.now)) }
     ensures { result ≡ word_at s.now at w }
 {
-    // no `from_be_bytes`: the two bytes are apart, and turning them afterwards made decoding of NRZ take a third more
+    // no `from_be_bytes`: the two bytes are apart, and turning them cost a byte of NRZ a third (docs/LOOK-BACK.md, d4)
     let two = u16::from(s[at / 8]) * 256 + u16::from(s[(at + w - 1) / 8]);
     usize::from((two << (at % 8)) >> (16 - w))
+}
+
+// The chips from place `at` on as bytes, as many as `room` holds, where they are all there. The eight of a byte lie in
+// two bytes as for `narrow`; from byte to byte these move on by one, so that the compiler takes sixteen at once (D143).
+pub fn bytes(s: &[u8], at: usize, room: &mut [u8])
+    requires { (length s.now ≤ room_limit) × (at + 8 * length room.old ≤ chip_count s.now) }
+    ensures { room.new ≡ bytes_at s.now at (length room.old) }
+{
+    let high = at / 8;
+    let low = (at + 7) / 8;
+    for k in 0..room.len() {
+        let two = u16::from(s[high + k]) * 256 + u16::from(s[low + k]);
+        room[k] = ((two << (at % 8)) >> 8) as u8;
+    }
 }

@@ -2,7 +2,7 @@
 --     byte_read_is, byte_read_bad    what the answer for one byte says of its words
 --     Filling             m and unit are the words and the chips of a byte; all words of the first i bytes are code
 --                         words, and the i bytes stand in the room, whose rest is as it was
---     filling_start, filling_fits, filling_step, filling_bad, filling_end, filling_length
+--     filling_start, filling_step, filling_bad, filling_end, filling_length
 use mathlib.Core.Path.{◌≡◌, refl, ap, sym, ◌∙◌}
 use mathlib.Core.Bool.{Bool, true, false, cond}
 use mathlib.Core.List.{List, [], ◌++◌}
@@ -25,7 +25,7 @@ use Rattle.line.proofs.CopyLaws.{set_tabulated}
 use Rattle.line.proofs.DecodingLaws.{value_at_shift}
 use Rattle.line.proofs.DigitLaws.{add_one-mul, mul-add-le}
 use Rattle.line.proofs.GoodRunLaws.{good_run-le, good_run_shift, good_run_same, good_run_stays}
-use Rattle.line.specs.Codes.{LineCode, words_in, chips_in}
+use Rattle.line.specs.Codes.{LineCode, words_in}
 use Rattle.line.specs.Decoding.{value_at, good_run, number_in, decoded_chip, decoding}
 use Rattle.line.specs.Inner.{unit_of, byte_read, AllWords}
 
@@ -77,11 +77,6 @@ filling_start law m-eq unit_eq =
 
 module _ {κ : LineCode} {s : List ℕ} {start n m unit i : ℕ} {room was : List ℕ}
     (inv : Filling κ s start n m unit i room was) where
-  pub filling_fits : i < n → start + chips_in κ n ≤ 8 * length s → start + i * unit + unit ≤ 8 * length s
-  filling_fits h fits =
-      let all : start + n * unit ≤ 8 * length s = rw (inv.unit_eq, ← mul_assoc) fits in
-      omega (arith, mul-add-le i n unit h)
-
   -- the words of byte i, counted from the start
   value_at_byte : (k : ℕ) → value_at κ s (start + i * unit) k ≡ value_at κ s start (i * m + k)
   value_at_byte k =

@@ -8,7 +8,6 @@
 --     joining_value      what word k stands for, cut out of the byte's chips
 --     joining_step       one code word more
 --     joining_room       and the number is still a byte
---     byte_read_nrz       a byte of NRZ is its own eight chips
 --     joining_bad        word k is no code word: the byte's answer
 --     joining_end        all words passed: the byte's answer
 use mathlib.Core.Path.{◌≡◌, refl, ap, sym, ◌∙◌}
@@ -22,14 +21,13 @@ use lib.Pow.{pow_mono}
 use Rattle.std.specs.Prelude.{Option, Some, None, Ok, Err}
 use Rattle.chips.proofs.GatherLaws.{gather-lt, gather_within, chip_at-lt}
 use Rattle.chips.specs.Chips.{gather, chip_at, word_at}
-use Rattle.line.proofs.CodeLaws.{lawful, Sizes}
+use Rattle.line.proofs.CodeLaws.{Sizes}
 use Rattle.line.proofs.DecodingLaws.{gather-decoded_chip-suc}
 use Rattle.line.proofs.DigitLaws.{mul-add-le}
 use Rattle.line.proofs.GoodRunLaws.{good_run_good, good_run_bad, good_run_stays}
-use Rattle.line.specs.Codes.{LineCode, code_of, word_value}
+use Rattle.line.specs.Codes.{LineCode, word_value}
 use Rattle.line.specs.Decoding.{value_at, good_run, decoded_chip}
 use Rattle.line.specs.Inner.{unit_of, byte_read}
-use Rattle.line.specs.declared.codes.Code.TheVariants.{Nrz}
 
 pub record Joining (κ : LineCode) (s : List ℕ) (at b w m u x k : ℕ) : Type 0 where
   pub sizes : Sizes κ b w m
@@ -95,12 +93,3 @@ module _ {κ : LineCode} {s : List ℕ} {at b w m u x k : ℕ} (inv : Joining κ
 pub joining_room : {κ : LineCode} {s : List ℕ} {at b w m u x k v : ℕ} → Joining κ s at b w m u x k
     → k < m → value_at κ s at k ≡ Some v → x * 2 ^ b + v < 256
 joining_room inv h e = joining_lt (joining_step inv h e)
-
-pub byte_read_nrz : (s : List ℕ) (at : ℕ) → byte_read (code_of Nrz) s at ≡ Ok (word_at s at 8)
-byte_read_nrz s at =
-    let here : at + 0 * 8 ≡ at = omega arith in
-    let value : value_at (code_of Nrz) s at 0 ≡ Some (word_at s at 8)
-    = rw here ((lawful Nrz).back (word_at s at 8) (gather-lt (chip_at s) (chip_at-lt s) at 8)) in
-    let sizes : Sizes (code_of Nrz) 8 8 1 = record { law = lawful Nrz; b-eq = refl; w-eq = refl; m-eq = refl } in
-    let start : Joining (code_of Nrz) s at 8 8 1 8 0 0 = joining_start sizes refl in
-    joining_end (joining_step start (omega arith) value) (omega arith) ∙ ap Ok (omega arith)

@@ -5,6 +5,7 @@ pub mod DecodingLaws
 pub mod EncodingLaws
 pub mod JoiningLaws
 pub mod HalvesLaws
+pub mod NrzLaws
 pub mod FillingLaws
 pub mod CodingLaws
 pub mod PouringLaws

@@ -24,17 +24,18 @@ pub(crate) fn size_in(f: Format, s: &[u8]) -> Result<Frame, Refusal>
     Ok(frame)
 }
 
-// In how many bytes two words of one length differ.
+// In how many bytes two words of one length differ. No word is longer than 255 bytes: a byte holds the count, and the
+// compiler counts in sixteen places at once (D143).
 pub(crate) fn differing(u: &[u8], v: &[u8]) -> usize
-    requires { length u.now ≡ length v.now }
+    requires { (length u.now ≡ length v.now) × (length u.now ≤ 255) }
     ensures { (result ≡ apart u.now v.now) × (result ≤ length u.now) }
 {
-    let mut count = 0;
-    // by an index: `filter` branches at each byte that differs, so that judging took a half more (docs/LOOK-BACK.md)
+    let mut count: u8 = 0;
+    // by an index: `filter` branches at each byte that differs
     for i in 0..u.len() {
-        count += usize::from(u[i] != v[i]);
+        count += u8::from(u[i] != v[i]);
     }
-    count
+    usize::from(count)
 }
 
 // The remainder of a word: its check bytes and fresh ones, added. It has the word's values at the roots.

@@ -1,10 +1,10 @@
 use mathlib.Core.Path.{◌≡◌, refl, ap, sym, ◌∙◌}
-use Prim.Native.Nat.{◌+◌, ◌*◌, ◌<◌, ◌≤◌}
+use Prim.Native.Nat.{ℕ, ◌+◌, ◌*◌, ◌<◌}
 use native.Mathlib.Omega.{arith}
 use lib.ListN.{length}
-use Rattle.chips.specs.Chips.{chip_count}
 use Rattle.line.proofs.CodeLaws.{lawful, words_in_le}
-use Rattle.line.proofs.FillingLaws.{filling_start, filling_fits, filling_step, filling_bad, filling_end, filling_length}
+use Rattle.line.proofs.NrzLaws.{nrz_words, nrz_bytes}
+use Rattle.line.proofs.FillingLaws.{filling_start, filling_step, filling_bad, filling_end, filling_length}
 use Rattle.answers.specs.declared.Refusal.TheVariants.{BadWord}
 use Rattle.line.specs.Codes.{code_of, words_in}
 use Rattle.line.specs.Decoding.{value_at, good_run}
@@ -14,12 +14,6 @@ use Rattle.line.proofs.decoding.fill.Goals as goal
 -- the room is as long as it was
 kept : (c : At-loop-i) → length c.loop-i.room ≡ length c.args.room.now
 kept c = filling_length c.loop-i.invariant (omega arith)
-
--- the words of byte i lie in the buffer
-fits : (c : In-loop-i)
-    → let a = c.args in
-    a.start + c.loop-i.i * c.unit-unit.result + c.unit-unit.result ≤ chip_count a.s.now
-fits c = filling_fits c.loop-i.invariant c.loop-i-test.true c.requires.1.1
 
 -- the first word that is none
 bad : (c : In-Err)
@@ -47,6 +41,12 @@ pub loop-i-preserved : goal.loop-i-preserved
 loop-i-preserved c =
     let loop = c.loop-i in
     filling_step loop.invariant c.loop-i-test.true (omega arith) (sym c.byte_at.ensures ∙ c.in-Ok.is)
+
+pub returns-in-Nrz-clause-ok : goal.returns-in-Nrz-clause-ok
+returns-in-Nrz-clause-ok c =
+    let a = c.args in
+    let n : ℕ = length a.room.now in
+    rw c.in-Nrz.is (nrz_words a.s.now a.start n, c.bytes.ensures ∙ nrz_bytes a.s.now a.start n)
 
 pub returns-clause-ok : goal.returns-clause-ok
 returns-clause-ok c = filling_end c.loop-i.invariant c.loop-i-test.false refl
