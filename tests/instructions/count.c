@@ -3,7 +3,7 @@
  * and the difference is what the row says. No clock is in it: the same machine code gives the same count, however busy the
  * machine is.
  *   count            every call against its limit; status 1 if one takes more, 2 if single steps are not allowed here,
- *                    3 if a call does not come back
+ *                    3 if a call is refused or does not come back
  *   count planted    the same with plain forms in place of the library's: the check bit by bit, the chips' bytes one by one,
  *                    the bytes that differ counted one by one. Status 1 if each is found too slow, 0 if one is not */
 #define _GNU_SOURCE
@@ -109,7 +109,7 @@ static const struct {
      * also call memset and memcpy, which differ from machine to machine: half more than was counted. */
     {"decode 290 bytes of NRZ", decode290, nothing, LIMIT(2000, 800), 1},
     {"receive a 290-byte frame of mode C", receive_c, nothing, LIMIT(8000, 5400), 1},
-    {"judge a 255-byte code word, beyond its check bytes", judge255, checks223, LIMIT(1000, 318), 1},
+    {"judge a 255-byte code word beyond its check bytes", judge255, checks223, LIMIT(1000, 318), 1},
 };
 enum { CALLS = sizeof calls / sizeof *calls };
 
